@@ -1,0 +1,2 @@
+// Floats and whole numbers as paper 01 uses them: conversions, tests and limits, each for every argument.
+pub mod floats;
