@@ -2,15 +2,19 @@
 -- A signed magnitude ±a is read as its positive part less its negative part, so that an order of signed fractions is one in ℕ. Assumes nothing.
 use mathlib.Core.Path.{_≡_, refl, sym, ap, ap₂, _∙_, subst}
 use mathlib.Core.Bool.{Bool, true, false, not, _&&_, _||_, cond, Bool·beq, true≢false}
-use Prim.Native.Nat.{ℕ, zero, suc, _+_, _-_, _*_, _/_, _^_, _≤_, _<_, min}
-use native.Mathlib.Nat.{le-of-mul-le-mul-right, mul-le-mul-right, add-mul, mul-assoc, mul-comm, mul-left-comm, mul-pos}
+use Prim.Native.Nat.{ℕ, zero, suc, _+_, _-_, _*_, _/_, _%_, _^_, _≤_, _<_, min}
+use native.Mathlib.Nat.{le-of-suc-le-suc, lt-of-not-le, zero-mul, one-mul, mul-one, eq-of-mul-eq-mul-right, lt-of-mul-lt-mul-right, mul-lt-mul-of-pos-right, le-of-mul-le-mul-right, mul-le-mul-right, add-mul, mul-assoc, mul-comm, mul-left-comm, mul-pos}
 use native.Mathlib.Omega.{arith}
 use lib.IntN.{ℤ, pos, negsuc, negℤ}
-use lib.Dec.{T, leb, ltb, eqb, ltb→lt, lt→ltb, nltb→le, eqb→eq}
-use lib.Ieee.{Float, nan, inf, fin, Format, binary32, binary64, prec, emax, low, up, down, round, neg, sum, add, sub, below, level, lt, eq, le, toSigned, fits, isNan, ofBits, toBits}
-use lib.Ieee.Fits.{up-pos, down-pos, and-i, and-l, and-r, eq→eqb}
+use lib.Dec.{T, leb, leb→le, ltb, eqb, ltb→lt, lt→ltb, nltb→le, eqb→eq}
+use lib.Ieee.{Float, nan, inf, fin, Format, binary32, binary64, prec, emax, low, up, down, size, odd, units, round, neg, sum, add, sub, below, level, lt, le, toSigned, fits, isNan, hid, top, ofBits, toBits}
+use lib.Ieee.Fits.{down-pos, and-i, and-l, and-r, eq→eqb, round-fits, round-is}
+use lib.Ieee.Digits.{back}
+use lib.Ieee.Bits.{ofBits-toBits}
+use lib.Ieee.Nearest.{div-same}
+use lib.Pow.{pow-pos, pow-add, pow-lt}
 use lib.Ieee.Exact.{HasValue, round-exact}
-use lib.Ieee.Order.{round-mono}
+use lib.Ieee.Order.{drop, kept, round-mono}
 use lib.Ieee.Scale.{finite}
 
 -- ---- signed fractions
@@ -127,3 +131,121 @@ lt-le (fin s m e) nan h k = h
 lt-le (fin s m e) (inf true) h k = h
 lt-le (fin s m e) (inf false) h k = k
 lt-le (fin s m e) (fin t n d) h k = from-lt s (m * up e) (down e) t (n * up d) (down d) h (from-le t (n * up d) (down d) s (m * up e) (down e) k)
+
+-- ---- `round` and the order
+
+-- Two values that fit, with one sign and one size, are the same.
+same-value : (f : Format) (x y : Float) (s : Bool) (a c : ℕ) → 0 < c → T (fits f x) → T (fits f y) → HasValue x s a c → HasValue y s a c → x ≡ y
+unfolding toBits
+same-value f nan y s a c C p q v w = absurd v
+same-value f (inf t) y s a c C p q v w = absurd v
+same-value f (fin t m e) nan s a c C p q v w = absurd w
+same-value f (fin t m e) (inf u) s a c C p q v w = absurd w
+same-value f (fin t m e) (fin u n d) s a c C p q v w =
+    let l = 2 ^ low f in
+    let cross : m * up e * l * down d ≡ n * up d * l * down e = cross (m * up e) (down e) (n * up d) (down d) a c l C (v .1) (w .1) in
+    sym (ofBits-toBits f (fin t m e) p)
+    ∙ ap₂ (λ (z : Bool) (i : ℕ). ofBits f (cond z (top f) 0 + (size i - prec f) * hid f + i / 2 ^ (size i - prec f))) (v .0 ∙ sym (w .0)) (div-same (m * up e * l) (down e) (n * up d * l) (down d) (down-pos e) (down-pos d) cross)
+    ∙ ofBits-toBits f (fin u n d) q
+  where
+    cross : (x y z w a c l : ℕ) → 0 < c → x * c ≡ a * y → z * c ≡ a * w → x * l * w ≡ z * l * y
+    cross x y z w a c l C p q = eq-of-mul-eq-mul-right c C (x * l * w) (z * l * y) 
+        (simp (mul-assoc, mul-comm, mul-left-comm) ((simp (mul-assoc, mul-comm, mul-left-comm) at (ap (λ (i : ℕ). i * (l * w)) p)) ∙ sym (simp (mul-assoc, mul-comm, mul-left-comm) at (ap (λ (i : ℕ). i * (l * y)) q))))
+
+conjuncts : (a b c d : Bool) → T (a && b && c && d) → T b × T c × T d
+conjuncts a b c d h = let k = and-l (a && b && c) d h in (and-r a b (and-l (a && b) c k), and-r (a && b) c k, and-r (a && b && c) d h)
+
+exponent : (l : ℕ) (e : ℤ) → down e ≤ 2 ^ l → (j : ℕ) × (up e * 2 ^ l ≡ 2 ^ j * down e)
+exponent l (pos a) h = (a + l, simp (pow-add, mul-one))
+exponent l (negsuc a) h =
+    let le : suc a ≤ l = le-of-suc-le-suc (lt-of-not-le (λ (g : suc l ≤ suc a). omega (arith, pow-lt g))) in
+    (l - suc a, one-mul (2 ^ l) ∙ ap (λ (x : ℕ). 2 ^ x) (sym (back l (suc a) le)) ∙ pow-add 2 (l - suc a) (suc a))
+
+-- A value that fits is m * 2 ^ j of the format's smallest values, m of no more digits than the format keeps.
+in-units : (f : Format) (s : Bool) (m : ℕ) (e : ℤ) → T (fits f (fin s m e)) → (j : ℕ) × (m < 2 ^ prec f) × (m * 2 ^ j < 2 ^ (low f + suc (emax f))) × (m * up e * 2 ^ low f ≡ m * 2 ^ j * down e)
+unfolding fits
+in-units f s zero e h = (0, pow-pos (prec f), pow-pos (low f + suc (emax f)), simp zero-mul)
+in-units f s (suc m) e h =
+    let M = suc m in
+    let l = low f in
+    let c = conjuncts (eqb (M % 2) 1) (ltb M (2 ^ prec f)) (leb (down e) (2 ^ l)) (ltb (M * up e) (2 ^ suc (emax f) * down e)) h in
+    let (j, i) = exponent l e (leb→le (down e) (2 ^ l) (c .1)) in
+    let is : M * up e * 2 ^ l ≡ M * 2 ^ j * down e = mul-assoc M (up e) (2 ^ l) ∙ ap (λ (x : ℕ). M * x) i ∙ sym (mul-assoc M (2 ^ j) (down e)) in
+    let under : M * up e * 2 ^ l < 2 ^ suc (emax f) * down e * 2 ^ l = mul-lt-mul-of-pos-right (ltb→lt (M * up e) (2 ^ suc (emax f) * down e) (c .2)) (pow-pos l) in
+    let top : 2 ^ suc (emax f) * down e * 2 ^ l ≡ 2 ^ (l + suc (emax f)) * down e = simp (pow-add, mul-assoc, mul-comm, mul-left-comm) in
+    (j, ltb→lt M (2 ^ prec f) (c .0), lt-of-mul-lt-mul-right (down e) (omega arith), is)
+
+-- A value that fits is its own rounding, by whatever fraction it is given.
+pub round-own : (f : Format) (s : Bool) (m : ℕ) (e : ℤ) (k : ℕ) → T (fits f (fin s m e)) → 0 < k → round f s (m * up e * k) (down e * k) ≡ fin s m e
+round-own f s m e k h K =
+    let u = in-units f s m e h in
+    same-value f (round f s (m * up e * k) (down e * k)) (fin s m e) s (m * up e * k) (down e * k) (mul-pos (down-pos e) K) (round-fits f s (m * up e * k) (down e * k)) h
+    (round-exact f s (m * up e * k) (down e * k) m (u .0) (mul-pos (down-pos e) K) (u .1) (u .2) (simp (mul-assoc, mul-comm, mul-left-comm) (simp (mul-assoc, mul-comm, mul-left-comm) at (ap (λ (x : ℕ). x * k) (u .3)))))
+    (refl, simp (mul-assoc, mul-comm, mul-left-comm))
+
+flip : (s : Bool) (a c : ℕ) (t : Bool) (b d : ℕ) → Le s a c t b d → Le (not t) b d (not s) a c
+flip false a c false b d h = omega arith
+flip false a c true b d h = omega arith
+flip true a c false b d h = omega arith
+flip true a c true b d h = omega arith
+
+-- Negation turns the order round.
+pub neg-le : (x y : Float) → T (le x y) → T (le (neg y) (neg x))
+unfolding le neg
+neg-le nan y h = absurd h
+neg-le (inf s) nan h = absurd h
+neg-le (inf true) (inf true) h = tt
+neg-le (inf true) (inf false) h = tt
+neg-le (inf false) (inf true) h = absurd h
+neg-le (inf false) (inf false) h = tt
+neg-le (inf true) (fin t n d) h = tt
+neg-le (inf false) (fin t n d) h = absurd h
+neg-le (fin s m e) nan h = absurd h
+neg-le (fin s m e) (inf true) h = absurd h
+neg-le (fin s m e) (inf false) h = tt
+neg-le (fin s m e) (fin t n d) h =
+    to-le (not t) (n * up d) (down d) (not s) (m * up e) (down e) (flip s (m * up e) (down e) t (n * up d) (down d) (from-le s (m * up e) (down e) t (n * up d) (down d) h))
+
+units-neg : (f : Format) (q k : ℕ) → units f true q k ≡ neg (units f false q k)
+unfolding units neg
+units-neg f q k = go (ltb (q * 2 ^ k) (2 ^ (low f + suc (emax f)))) q
+  where
+    go : (b : Bool) (i : ℕ) → cond b (odd (suc (prec f)) true i k (low f)) (inf true) ≡ neg (cond b (odd (suc (prec f)) false i k (low f)) (inf false))
+    go true zero = refl
+    go true (suc i) = refl
+    go false i = refl
+
+round-neg : (f : Format) (a c : ℕ) → round f true a c ≡ neg (round f false a c)
+round-neg f a c =
+    let k = drop (prec f) (a * 2 ^ low f) c in
+    round-is f true a c ∙ units-neg f (kept (prec f) (a * 2 ^ low f) c) k ∙ ap neg (sym (round-is f false a c))
+
+same-sign : (f : Format) (s : Bool) (a c b d : ℕ) → 0 < c → 0 < d → Le s a c s b d → T (le (round f s a c) (round f s b d))
+same-sign f false a c b d C D h = round-mono f a c b d C D (omega arith)
+same-sign f true a c b d C D h = rw (round-neg f a c, round-neg f b d) (neg-le (round f false b d) (round f false a c) (round-mono f b d a c D C (omega arith)))
+
+zeros : (f : Format) (s t : Bool) → T (le (round f s 0 1) (round f t 0 1))
+unfolding le fits
+zeros f s t = rw (round-own f s 0 (pos 0) 1 tt (pow-pos 0), round-own f t 0 (pos 0) 1 tt (pow-pos 0)) (equal s t)
+  where
+    equal : (s t : Bool) → T (le (fin s 0 (pos 0)) (fin t 0 (pos 0)))
+    equal false false = tt
+    equal false true = tt
+    equal true false = tt
+    equal true true = tt
+
+-- by 0, where the signs differ
+over-zero : (f : Format) (s : Bool) (a c : ℕ) (t : Bool) (b d : ℕ) → 0 < c → 0 < d → Le s a c s 0 1 → Le t 0 1 t b d → T (le (round f s a c) (round f t b d))
+over-zero f s a c t b d C D h k =
+    le-trans (round f s a c) (round f s 0 1) (round f t b d) (same-sign f s a c 0 1 C (pow-pos 0) h)
+    (le-trans (round f s 0 1) (round f t 0 1) (round f t b d) (zeros f s t) (same-sign f t 0 1 b d (pow-pos 0) D k))
+
+none : (x k : ℕ) → 0 < k → x * k ≤ 0 → x ≤ 0
+none x k K h = le-of-mul-le-mul-right (omega arith) K
+
+-- Rounding keeps the order of signed fractions.
+round-le : (f : Format) (s : Bool) (a c : ℕ) (t : Bool) (b d : ℕ) → 0 < c → 0 < d → Le s a c t b d → T (le (round f s a c) (round f t b d))
+round-le f false a c false b d C D h = same-sign f false a c b d C D h
+round-le f false a c true b d C D h = over-zero f false a c true b d C D (omega (arith, none a d D (omega arith))) (omega (arith, none b c C (omega arith)))
+round-le f true a c false b d C D h = over-zero f true a c false b d C D (omega arith) (omega arith)
+round-le f true a c true b d C D h = same-sign f true a c b d C D h
