@@ -1,6 +1,6 @@
 -- The order of floats: transitive, kept by `round`, and what adding or subtracting a value of at least 0 does to it.
 -- A signed magnitude ±a is read as its positive part less its negative part, so that an order of signed fractions is one in ℕ. Assumes nothing.
-use mathlib.Core.Path.{_≡_, refl, sym, ap, ap₂, _∙_, subst}
+use mathlib.Core.Path.{_≡_, refl, sym, ap, ap₂, _∙_, subst₂}
 use mathlib.Core.Bool.{Bool, true, false, not, _&&_, _||_, cond, Bool·beq, true≢false}
 use Prim.Native.Nat.{ℕ, zero, suc, _+_, _-_, _*_, _/_, _%_, _^_, _≤_, _<_, min}
 use native.Mathlib.Nat.{le-of-suc-le-suc, lt-of-not-le, zero-mul, one-mul, mul-one, eq-of-mul-eq-mul-right, lt-of-mul-lt-mul-right, mul-lt-mul-of-pos-right, le-of-mul-le-mul-right, mul-le-mul-right, add-mul, mul-assoc, mul-comm, mul-left-comm, mul-pos}
@@ -249,3 +249,91 @@ round-le f false a c false b d C D h = same-sign f false a c b d C D h
 round-le f false a c true b d C D h = over-zero f false a c true b d C D (omega (arith, none a d D (omega arith))) (omega (arith, none b c C (omega arith)))
 round-le f true a c false b d C D h = over-zero f true a c false b d C D (omega arith) (omega arith)
 round-le f true a c true b d C D h = same-sign f true a c b d C D h
+
+-- ---- sums
+
+-- x is the rounding of ±a / c + ±b / c.
+abbrev Sum : Format → Float → Bool → ℕ → Bool → ℕ → ℕ → Type 0
+Sum f x s a t b c = (u : Bool) × (r : ℕ) × (x ≡ round f u r c) × (posPart u r + (negPart s a + negPart t b) ≡ negPart u r + (posPart s a + posPart t b))
+
+-- unlike signs: p and q are the tests a < b and b < a
+difference : (f : Format) (s : Bool) (a b c : ℕ) (p q : Bool) → (T p → a < b) → (T (not p) → b ≤ a) → (T (not q) → a ≤ b) → Sum f (cond p (round f (not s) (b - a) c) (round f (s && q) (a - b) c)) s a (not s) b c
+difference f true a b c true q h k l = (false, b - a, refl, omega (arith, h tt))
+difference f true a b c false true h k l = (true, a - b, refl, omega (arith, k tt))
+difference f true a b c false false h k l = (false, a - b, refl, omega (arith, k tt, l tt))
+difference f false a b c true q h k l = (true, b - a, refl, omega (arith, h tt))
+difference f false a b c false q h k l = (false, a - b, refl, omega (arith, k tt))
+
+sum-is : (f : Format) (s : Bool) (a : ℕ) (t : Bool) (b c : ℕ) → Sum f (sum f s a t b c) s a t b c
+unfolding sum
+sum-is f true a true b c = (true, a + b, refl, omega arith)
+sum-is f true a false b c = difference f true a b c (ltb a b) (ltb b a) (ltb→lt a b) (nltb→le a b) (nltb→le b a)
+sum-is f false a true b c = difference f false a b c (ltb a b) (ltb b a) (ltb→lt a b) (nltb→le a b) (nltb→le b a)
+sum-is f false a false b c = (false, a + b, refl, omega arith)
+
+-- one denominator
+over : (p n q o c : ℕ) → p + o ≤ q + n → p * c + o * c ≤ q * c + n * c
+over p n q o c h = simp add-mul at (mul-le-mul-right c h)
+
+sum-side : (f : Format) (s : Bool) (a : ℕ) (t : Bool) (b c : ℕ) → 0 < c
+    → (posPart t b ≤ negPart t b → T (le (sum f s a t b c) (round f s a c))) × (negPart t b ≤ posPart t b → T (le (round f s a c) (sum f s a t b c)))
+sum-side f s a t b c C =
+    let S = sum-is f s a t b c in
+    let u = S .0 in
+    let r = S .1 in
+    (
+      λ h. rw (S .2) (round-le f u r c s a c C C (over (posPart u r) (negPart u r) (posPart s a) (negPart s a) c (omega (arith, S .3)))),
+      λ h. rw (S .2) (round-le f s a c u r c C C (over (posPart s a) (negPart s a) (posPart u r) (negPart u r) c (omega (arith, S .3)))),
+    )
+
+at-most : (t : Bool) (b k : ℕ) → posPart t b ≤ negPart t b → posPart t (b * k) ≤ negPart t (b * k)
+at-most true b k h = omega arith
+at-most false b k h = omega (arith, mul-le-mul-right k h, zero-mul k)
+
+at-least : (t : Bool) (b k : ℕ) → negPart t b ≤ posPart t b → negPart t (b * k) ≤ posPart t (b * k)
+at-least true b k h = omega (arith, mul-le-mul-right k h, zero-mul k)
+at-least false b k h = omega arith
+
+-- A finite value of at most 0 leads to no greater sum, one of at least 0 to no smaller sum.
+add-side : (f : Format) (x y : Float) → T (fits f x) → isNan x ≡ false → finite y ≡ true
+    → (T (le y (fin true 0 (pos 0))) → T (le (add f x y) x)) × (T (le (fin false 0 (pos 0)) y) → T (le x (add f x y)))
+unfolding add le isNan
+add-side f nan y F N Y = absurd (true≢false N)
+add-side f (inf s) nan F N Y = absurd (true≢false (sym Y))
+add-side f (inf s) (inf t) F N Y = absurd (true≢false (sym Y))
+add-side f (inf s) (fin t n d) F N Y = (λ h. le-refl-number (inf s) refl, λ h. le-refl-number (inf s) refl)
+add-side f (fin s m e) nan F N Y = absurd (true≢false (sym Y))
+add-side f (fin s m e) (inf t) F N Y = absurd (true≢false (sym Y))
+add-side f (fin s m e) (fin t n d) F N Y =
+    let b = n * up d in
+    let own = round-own f s m e (down d) F (down-pos d) in
+    let S = sum-side f s (m * up e * down d) t (b * down e) (down e * down d) (mul-pos (down-pos e) (down-pos d)) in
+    (
+      λ h. rw (← own) (S .0 (at-most t b (down e) (omega (arith, from-le t b (down d) true 0 1 h)))),
+      λ h. rw (← own) (S .1 (at-least t b (down e) (omega (arith, from-le false 0 1 t b (down d) h)))),
+    )
+
+zero-bits : (f : Format) → ofBits f 0 ≡ fin false 0 (pos 0)
+unfolding ofBits
+zero-bits binary32 = refl
+zero-bits binary64 = refl
+
+neg-finite : (x : Float) → finite x ≡ true → finite (neg x) ≡ true
+unfolding neg
+neg-finite nan h = h
+neg-finite (inf s) h = h
+neg-finite (fin s m e) h = refl
+
+-- Subtracting a finite value of at least 0 (−0 too) never leads above, adding one never below.
+module _ (f : Format) (x h : Float) (F : T (fits f x)) (N : isNan x ≡ false) (H : finite h ≡ true) (P : T (le (ofBits f 0) h)) where
+  pub sub-below : T (le (sub f x h) x)
+  unfolding sub neg
+  sub-below = add-side f x (neg h) F N (neg-finite h H) .0 (neg-le (fin false 0 (pos 0)) h (rw zero-bits at P))
+
+  pub add-above : T (le x (add f x h))
+  add-above = add-side f x h F N H .1 (rw zero-bits at P)
+
+  -- An alarm at the limit x with the hysteresis h does not rise and fall at one value: `high` is a high alarm.
+  pub not-rise-and-fall : (high : Bool) (out : Float) → T (cond high (le x out) (le out x)) → T (cond high (lt out (sub f x h)) (lt (add f x h) out)) → ⊥
+  not-rise-and-fall true out r g = lt-le out (sub f x h) g (le-trans (sub f x h) x out sub-below r)
+  not-rise-and-fall false out r g = lt-le (add f x h) out g (le-trans out x (add f x h) r add-above)
