@@ -6,16 +6,19 @@ use Prim.Native.Nat.{ℕ, zero, suc, _+_, _-_, _*_, _/_, _%_, _^_, _≤_, _<_, m
 use native.Mathlib.Nat.{le-of-suc-le-suc, lt-of-not-le, zero-mul, one-mul, mul-one, eq-of-mul-eq-mul-right, lt-of-mul-lt-mul-right, mul-lt-mul-of-pos-right, le-of-mul-le-mul-right, mul-le-mul-right, add-mul, mul-assoc, mul-comm, mul-left-comm, mul-pos}
 use native.Mathlib.Omega.{arith}
 use lib.IntN.{ℤ, pos, negsuc, negℤ}
-use lib.Dec.{T, leb, leb→le, ltb, eqb, ltb→lt, lt→ltb, nltb→le, eqb→eq}
+use lib.Dec.{T, leb, leb→le, le→leb, ltb, eqb, ltb→lt, lt→ltb, nltb→le, eqb→eq}
+use lib.Signed.{leZ}
 use lib.Ieee.{Float, nan, inf, fin, Format, binary32, binary64, prec, emax, low, up, down, size, odd, units, round, neg, sum, add, sub, below, level, lt, le, toSigned, fits, isNan, hid, top, ofBits, toBits}
 use lib.Ieee.Fits.{down-pos, and-i, and-l, and-r, eq→eqb, round-fits, round-is}
 use lib.Ieee.Digits.{back}
 use lib.Ieee.Bits.{ofBits-toBits}
-use lib.Ieee.Nearest.{div-same}
+use lib.Ieee.Nearest.{div-mono, div-same}
 use lib.Pow.{pow-pos, pow-add, pow-lt}
 use lib.Ieee.Exact.{HasValue, round-exact}
 use lib.Ieee.Order.{drop, kept, round-mono}
 use lib.Ieee.Scale.{finite}
+
+ruleset products = (mul-assoc, mul-comm, mul-left-comm)
 
 -- ---- signed fractions
 
@@ -59,9 +62,9 @@ from-lt true a c true b d h k = omega (arith, ltb→lt)
 -- p and n, q and o, r and l are the parts of three numerators
 through : (p n c q o d r l g : ℕ) → 0 < d → p * d + o * c ≤ q * c + n * d → q * g + l * d ≤ r * d + o * g → p * g + l * c ≤ r * c + n * g
 through p n c q o d r l g D h k =
-    let x = simp (add-mul, mul-assoc, mul-comm, mul-left-comm) at (mul-le-mul-right g h) in
-    let y = simp (add-mul, mul-assoc, mul-comm, mul-left-comm) at (mul-le-mul-right c k) in
-    let z : (p * g + l * c) * d ≤ (r * c + n * g) * d = simp (add-mul, mul-assoc, mul-comm, mul-left-comm) (omega arith) in
+    let x = simp (add-mul, products) at (mul-le-mul-right g h) in
+    let y = simp (add-mul, products) at (mul-le-mul-right c k) in
+    let z : (p * g + l * c) * d ≤ (r * c + n * g) * d = simp (add-mul, products) (omega arith) in
     le-of-mul-le-mul-right z D
 
 -- ---- the order of all floats
@@ -150,7 +153,7 @@ same-value f (fin t m e) (fin u n d) s a c C p q v w =
   where
     cross : (x y z w a c l : ℕ) → 0 < c → x * c ≡ a * y → z * c ≡ a * w → x * l * w ≡ z * l * y
     cross x y z w a c l C p q = eq-of-mul-eq-mul-right c C (x * l * w) (z * l * y) 
-        (simp (mul-assoc, mul-comm, mul-left-comm) ((simp (mul-assoc, mul-comm, mul-left-comm) at (ap (λ (i : ℕ). i * (l * w)) p)) ∙ sym (simp (mul-assoc, mul-comm, mul-left-comm) at (ap (λ (i : ℕ). i * (l * y)) q))))
+        (simp products ((simp products at (ap (λ (i : ℕ). i * (l * w)) p)) ∙ sym (simp products at (ap (λ (i : ℕ). i * (l * y)) q))))
 
 conjuncts : (a b c d : Bool) → T (a && b && c && d) → T b × T c × T d
 conjuncts a b c d h = let k = and-l (a && b && c) d h in (and-r a b (and-l (a && b) c k), and-r (a && b) c k, and-r (a && b && c) d h)
@@ -172,7 +175,7 @@ in-units f s (suc m) e h =
     let (j, i) = exponent l e (leb→le (down e) (2 ^ l) (c .1)) in
     let is : M * up e * 2 ^ l ≡ M * 2 ^ j * down e = mul-assoc M (up e) (2 ^ l) ∙ ap (λ (x : ℕ). M * x) i ∙ sym (mul-assoc M (2 ^ j) (down e)) in
     let under : M * up e * 2 ^ l < 2 ^ suc (emax f) * down e * 2 ^ l = mul-lt-mul-of-pos-right (ltb→lt (M * up e) (2 ^ suc (emax f) * down e) (c .2)) (pow-pos l) in
-    let top : 2 ^ suc (emax f) * down e * 2 ^ l ≡ 2 ^ (l + suc (emax f)) * down e = simp (pow-add, mul-assoc, mul-comm, mul-left-comm) in
+    let top : 2 ^ suc (emax f) * down e * 2 ^ l ≡ 2 ^ (l + suc (emax f)) * down e = simp (pow-add, products) in
     (j, ltb→lt M (2 ^ prec f) (c .0), lt-of-mul-lt-mul-right (down e) (omega arith), is)
 
 -- A value that fits is its own rounding, by whatever fraction it is given.
@@ -180,8 +183,8 @@ pub round-own : (f : Format) (s : Bool) (m : ℕ) (e : ℤ) (k : ℕ) → T (fit
 round-own f s m e k h K =
     let u = in-units f s m e h in
     same-value f (round f s (m * up e * k) (down e * k)) (fin s m e) s (m * up e * k) (down e * k) (mul-pos (down-pos e) K) (round-fits f s (m * up e * k) (down e * k)) h
-    (round-exact f s (m * up e * k) (down e * k) m (u .0) (mul-pos (down-pos e) K) (u .1) (u .2) (simp (mul-assoc, mul-comm, mul-left-comm) (simp (mul-assoc, mul-comm, mul-left-comm) at (ap (λ (x : ℕ). x * k) (u .3)))))
-    (refl, simp (mul-assoc, mul-comm, mul-left-comm))
+    (round-exact f s (m * up e * k) (down e * k) m (u .0) (mul-pos (down-pos e) K) (u .1) (u .2) (simp products (simp products at (ap (λ (x : ℕ). x * k) (u .3)))))
+    (refl, simp products)
 
 flip : (s : Bool) (a c : ℕ) (t : Bool) (b d : ℕ) → Le s a c t b d → Le (not t) b d (not s) a c
 flip false a c false b d h = omega arith
@@ -286,13 +289,9 @@ sum-side f s a t b c C =
       λ h. rw (S .2) (round-le f s a c u r c C C (over (posPart s a) (negPart s a) (posPart u r) (negPart u r) c (omega (arith, S .3)))),
     )
 
-at-most : (t : Bool) (b k : ℕ) → posPart t b ≤ negPart t b → posPart t (b * k) ≤ negPart t (b * k)
-at-most true b k h = omega arith
-at-most false b k h = omega (arith, mul-le-mul-right k h, zero-mul k)
-
-at-least : (t : Bool) (b k : ℕ) → negPart t b ≤ posPart t b → negPart t (b * k) ≤ posPart t (b * k)
-at-least true b k h = omega (arith, mul-le-mul-right k h, zero-mul k)
-at-least false b k h = omega arith
+parts-mul : (s : Bool) (a k : ℕ) → (posPart s (a * k) ≡ posPart s a * k) × (negPart s (a * k) ≡ negPart s a * k)
+parts-mul true a k = (sym (zero-mul k), refl)
+parts-mul false a k = (refl, sym (zero-mul k))
 
 -- A finite value of at most 0 leads to no greater sum, one of at least 0 to no smaller sum.
 add-side : (f : Format) (x y : Float) → T (fits f x) → isNan x ≡ false → finite y ≡ true
@@ -306,11 +305,12 @@ add-side f (fin s m e) nan F N Y = absurd (true≢false (sym Y))
 add-side f (fin s m e) (inf t) F N Y = absurd (true≢false (sym Y))
 add-side f (fin s m e) (fin t n d) F N Y =
     let b = n * up d in
+    let P = parts-mul t b (down e) in
     let own = round-own f s m e (down d) F (down-pos d) in
     let S = sum-side f s (m * up e * down d) t (b * down e) (down e * down d) (mul-pos (down-pos e) (down-pos d)) in
     (
-      λ h. rw (← own) (S .0 (at-most t b (down e) (omega (arith, from-le t b (down d) true 0 1 h)))),
-      λ h. rw (← own) (S .1 (at-least t b (down e) (omega (arith, from-le false 0 1 t b (down d) h)))),
+      λ h. rw (← own) (S .0 (rw (P .0, P .1) (mul-le-mul-right (down e) (omega (arith, from-le t b (down d) true 0 1 h))))),
+      λ h. rw (← own) (S .1 (rw (P .0, P .1) (mul-le-mul-right (down e) (omega (arith, from-le false 0 1 t b (down d) h))))),
     )
 
 zero-bits : (f : Format) → ofBits f 0 ≡ fin false 0 (pos 0)
@@ -337,3 +337,52 @@ module _ (f : Format) (x h : Float) (F : T (fits f x)) (N : isNan x ≡ false) (
   pub not-rise-and-fall : (high : Bool) (out : Float) → T (cond high (le x out) (le out x)) → T (cond high (lt out (sub f x h)) (lt (add f x h) out)) → ⊥
   not-rise-and-fall true out r g = lt-le out (sub f x h) g (le-trans (sub f x h) x out sub-below r)
   not-rise-and-fall false out r g = lt-le (add f x h) out g (le-trans out x (add f x h) r add-above)
+
+-- ---- cutting toward 0
+
+signed-le : (s : Bool) (a : ℕ) (t : Bool) (b : ℕ) → posPart s a + negPart t b ≤ posPart t b + negPart s a → T (leZ (cond s (negℤ (pos a)) (pos a)) (cond t (negℤ (pos b)) (pos b)))
+signed-le false a false b h = le→leb a b (omega arith)
+signed-le false a true zero h = le→leb a 0 (omega arith)
+signed-le false a true (suc b) h = omega arith
+signed-le true zero false b h = le→leb 0 b (omega arith)
+signed-le true (suc a) false b h = tt
+signed-le true zero true zero h = tt
+signed-le true zero true (suc b) h = omega arith
+signed-le true (suc a) true zero h = tt
+signed-le true (suc a) true (suc b) h = le→leb b a (omega arith)
+
+quotient-le : (s : Bool) (a c : ℕ) (t : Bool) (b d : ℕ) → 0 < c → 0 < d → Le s a c t b d → posPart s (a / c) + negPart t (b / d) ≤ posPart t (b / d) + negPart s (a / c)
+quotient-le false a c false b d C D h = omega (arith, div-mono a c b d C D (omega arith))
+quotient-le false a c true b d C D h = omega (arith, div-mono a c 0 1 C (pow-pos 0) (omega (arith, none a d D (omega arith))), div-mono b d 0 1 D (pow-pos 0) (omega (arith, none b c C (omega arith))))
+quotient-le true a c false b d C D h = omega arith
+quotient-le true a c true b d C D h = omega (arith, div-mono b d a c D C (omega arith))
+
+-- ±q and ±r, each moved into the range of h bits and a sign
+clamped-le : (h : ℕ) (s : Bool) (q : ℕ) (t : Bool) (r : ℕ) → posPart s q + negPart t r ≤ posPart t r + negPart s q
+    → T (leZ (cond s (negℤ (pos (min q (2 ^ h)))) (pos (min q (2 ^ h - 1)))) (cond t (negℤ (pos (min r (2 ^ h)))) (pos (min r (2 ^ h - 1)))))
+clamped-le h false q false r k = signed-le false (min q (2 ^ h - 1)) false (min r (2 ^ h - 1)) (omega arith)
+clamped-le h false q true r k = signed-le false (min q (2 ^ h - 1)) true (min r (2 ^ h)) (omega arith)
+clamped-le h true q false r k = signed-le true (min q (2 ^ h)) false (min r (2 ^ h - 1)) (omega arith)
+clamped-le h true q true r k = signed-le true (min q (2 ^ h)) true (min r (2 ^ h)) (omega arith)
+
+least-cut : (h : ℕ) (x : Float) → T (leZ (negℤ (pos (2 ^ h))) (toSigned h x))
+unfolding toSigned
+least-cut h nan = signed-le true (2 ^ h) false 0 (omega arith)
+least-cut h (inf true) = signed-le true (2 ^ h) true (2 ^ h) (omega arith)
+least-cut h (inf false) = signed-le true (2 ^ h) false (2 ^ h - 1) (omega arith)
+least-cut h (fin true m e) = signed-le true (2 ^ h) true (min (m * up e / down e) (2 ^ h)) (omega arith)
+least-cut h (fin false m e) = signed-le true (2 ^ h) false (min (m * up e / down e) (2 ^ h - 1)) (omega arith)
+
+-- Cutting toward 0 to an integer of h bits and a sign keeps the order of all floats.
+pub cut-mono : (h : ℕ) (x y : Float) → T (le x y) → T (leZ (toSigned h x) (toSigned h y))
+unfolding le toSigned
+cut-mono h nan y k = absurd k
+cut-mono h (inf true) y k = least-cut h y
+cut-mono h (inf false) y k = rw (← greatest y k) (signed-le false (2 ^ h - 1) false (2 ^ h - 1) (omega arith))
+cut-mono h (fin s m e) nan k = absurd k
+cut-mono h (fin s m e) (inf true) k = absurd k
+cut-mono h (fin true m e) (inf false) k = signed-le true (min (m * up e / down e) (2 ^ h)) false (2 ^ h - 1) (omega arith)
+cut-mono h (fin false m e) (inf false) k = signed-le false (min (m * up e / down e) (2 ^ h - 1)) false (2 ^ h - 1) (omega arith)
+cut-mono h (fin s m e) (fin t n d) k =
+    clamped-le h s (m * up e / down e) t (n * up d / down d)
+    (quotient-le s (m * up e) (down e) t (n * up d) (down d) (down-pos e) (down-pos d) (from-le s (m * up e) (down e) t (n * up d) (down d) k))
