@@ -1,0 +1,3 @@
+-- The root of the crate's specs.
+pub mod Whole
+pub mod WholeLaws

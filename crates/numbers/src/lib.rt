@@ -1,0 +1,2 @@
+// Numbers: floats by their bits, whole numbers cut and limited.
+pub mod whole;
