@@ -1,3 +1,4 @@
--- The root of the crate's specs.
+pub mod Floats
+pub mod FloatLaws
 pub mod Whole
 pub mod WholeLaws
