@@ -1,0 +1,52 @@
+-- `ain::fail_safe` meets its contract: the tests that led to each `return` pick the definition's case.
+-- Assumes nothing.
+use Rattle.ain.specs.Tick.{failSafeOut}
+use borrow.Author.Needs.{needs}
+use Rattle.ain.proofs.fail_safe.Statement.{statement}
+use Rattle.ain.proofs.fail_safe.Tie as tie
+
+bits-of-requires : tie.Need-bits-of-requires
+bits-of-requires c κs = search needs
+
+returns : tie.Need-returns
+unfolding failSafeOut
+returns c = rw (c .bits-of .ensures, c .before .if1 .taken)
+
+bits-of-requires-2 : tie.Need-bits-of-requires-2
+bits-of-requires-2 c κs = search needs
+
+returns-2 : tie.Need-returns-2
+unfolding failSafeOut
+returns-2 c = rw (c .bits-of2 .ensures, c .before .before .before .if1 .left, c .before .before .if2 .taken, c .before .if3 .taken)
+
+returns-3 : tie.Need-returns-3
+unfolding failSafeOut
+returns-3 c = rw (c .before .before .if1 .left, c .before .if2 .taken, c .if3 .left)
+
+is-finite-requires : tie.Need-is-finite-requires
+is-finite-requires c κs = search needs
+
+bits-of-requires-3 : tie.Need-bits-of-requires-3
+bits-of-requires-3 c κs = search needs
+
+returns-4 : tie.Need-returns-4
+unfolding failSafeOut
+returns-4 c = rw (c .bits-of3 .ensures, ← c .before .before .is-finite .ensures, c .before .before .before .before .if1 .left, c .before .before .before .if2 .left, c .before .if4 .taken)
+
+returns-5 : tie.Need-returns-5
+unfolding failSafeOut
+returns-5 c = rw (← c .before .is-finite .ensures, c .before .before .before .if1 .left, c .before .before .if2 .left, c .if4 .left)
+
+pub fail-safe-spec : {M : Type 1} → statement M
+fail-safe-spec =
+    tie.close
+    (tie.spec
+    bits-of-requires
+    returns
+    bits-of-requires-2
+    returns-2
+    returns-3
+    is-finite-requires
+    bits-of-requires-3
+    returns-4
+    returns-5)

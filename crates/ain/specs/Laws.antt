@@ -1,0 +1,188 @@
+-- Laws of AIN's tick that the device's history cites: when an Auto tick is Good, and that OUT stays finite. Assumes nothing.
+use Prim.Native.Nat.{ℕ, _/_}
+use mathlib.Core.Path.{_≡_, refl, sym, ap, _∙_, subst}
+use mathlib.Core.Bool.{Bool, true, false, not, _&&_, _||_, cond, true≢false}
+use lib.Dec.{T, eqb}
+use lib.IntN.{pos}
+use lib.Ieee.{Float, binary32, ofInt, ofBits, add, sub, mul, div, eq, fits}
+use lib.Ieee.Fits.{add-fits}
+use lib.Ieee.Scale.{finite}
+use borrow.Author.Tests.{eqb-true}
+use Rattle.numbers.specs.Floats.{floatOf, bitsOf}
+use Rattle.numbers.specs.FloatLaws.{float-back, add-right, sub-left, div-left}
+use Rattle.scaling.specs.declared.Scale.{Scale}
+use Rattle.scaling.specs.Scaling.{atFraction, fractionOf}
+use Rattle.scaling.specs.Laws.{fraction-unfinished, atFraction-unfinished}
+use Rattle.wire.specs.declared.Pair.{Pair}
+use Rattle.wire.specs.Status.{qualityOf}
+use Rattle.blocks.specs.declared.Kept.{Kept}
+use Rattle.blocks.specs.declared.Input.{Input}
+use Rattle.blocks.specs.declared.Input.the-variants.{Usable, Bad}
+use Rattle.blocks.specs.Common.{inputStatus, good}
+use Rattle.ain.specs.declared.Settings.{Settings}
+use Rattle.ain.specs.declared.Alarms.{Alarms}
+use Rattle.ain.specs.declared.State.{State}
+use Rattle.ain.specs.Scaling.{scaledOf, filtered}
+use Rattle.ain.specs.Alarm.{alarmStatus, alarmsOf}
+use Rattle.ain.specs.Tick.{scaledValue, calculated, inputOf, failSafeOut, usableTick, unusableTick, autoBy, autoTick}
+
+-- ---- what is not finite stays so
+pub filtered-unfinished : (time : Float) (old : Kept) (x : Float) → finite x ≡ false → finite (filtered time old x) ≡ false
+unfolding filtered
+filtered-unfinished time old x h = go (eq time (ofInt binary32 (pos 0)) || not (old .some))
+  where
+    sum : Float
+    sum = add binary32 (old .value) (div binary32 (sub binary32 x (old .value)) (add binary32 (mul binary32 time (ofInt binary32 (pos 10))) (ofInt binary32 (pos 1))))
+
+    go : (b : Bool) → finite (cond b x sum) ≡ false
+    go true = h
+    go false = add-right binary32 (old .value) _ (div-left binary32 _ _ (sub-left binary32 x (old .value) h))
+
+-- "an input that isn't finite cannot lead to a finite calculated value"
+pub calculated-unfinished : (s : Settings) (old : Kept) (bits : ℕ) → finite (floatOf bits) ≡ false → finite (calculated s old bits) ≡ false
+unfolding calculated scaledValue scaledOf
+calculated-unfinished s old bits h =
+    filtered-unfinished (s .«pv_ftime») old (scaledValue s bits)
+    (atFraction-unfinished (s .«out_scale») (fractionOf (s .«pv_scale») (floatOf bits)) (fraction-unfinished (s .«pv_scale») (floatOf bits) h))
+
+-- ---- when an Auto tick is Good
+fail-safe-not-good : (kind : ℕ) (value : Float) (last : Kept) (scaled : Float) (old : Pair) (bad : ℕ) → good bad ≡ false → good (failSafeOut kind value last scaled old bad .status) ≡ false
+unfolding failSafeOut
+fail-safe-not-good kind value last scaled old bad h = go (eqb kind 0) (eqb kind 1) (last .some) (finite scaled)
+  where
+    go : (a b c d : Bool) → good (cond {A = Pair} a (record { bits = bitsOf value; status = 0x48 }) (cond b (cond c (record { bits = bitsOf (last .value); status = 0x44 }) (record { bits = 0; status = 0x4c })) (cond d (record { bits = bitsOf scaled; status = bad }) (record { bits = old .bits; status = bad }))) .status) ≡ false
+    go true b c d = refl
+    go false true true d = refl
+    go false true false d = refl
+    go false false c true = h
+    go false false c false = h
+
+alarm-status-good : (stand : Alarms) (status : ℕ) → good (alarmStatus stand status) ≡ good status
+unfolding alarmStatus
+alarm-status-good stand status = go (eqb (qualityOf status) 2) refl (stand .«hi_hi») (stand .«lo_lo») (stand .hi) (stand .lo)
+  where
+    go : (q : Bool) → eqb (qualityOf status) 2 ≡ q → (a b c d : Bool) → eqb (qualityOf (cond (not q) status (cond a 0x8e (cond b 0x8d (cond c 0x8a (cond d 0x89 status)))))) 2 ≡ q
+    go false e a b c d = e
+    go true e true b c d = refl
+    go true e false true c d = refl
+    go true e false false true d = refl
+    go true e false false false true = refl
+    go true e false false false false = e
+
+-- a status that "quality 3 counts as 0x04; quality 0 is itself" makes Bad is not Good
+other-quality : (status k : ℕ) → eqb (qualityOf status) k ≡ true → eqb k 2 ≡ false → good status ≡ false
+other-quality status k h n = ap (λ (q : ℕ). eqb q 2) (eqb-true (qualityOf status) k h) ∙ n
+
+and-false : (a b : Bool) → b ≡ false → a && b ≡ false
+and-false true b h = h
+and-false false b h = refl
+
+and-true : (a b : Bool) → b ≡ true → a && b ≡ a
+and-true true b h = h
+and-true false b h = refl
+
+right-true : (a b : Bool) → a && b ≡ true → b ≡ true
+right-true true b h = h
+right-true false b h = absurd (true≢false (sym h))
+
+module _ (s : Settings) (st : State) (mode bits status : ℕ) where
+  abbrev pv : Float
+  pv = calculated s (st .filter) bits
+
+  outcome : Input → Bool
+  outcome i = good (autoBy s st mode bits status i .out .status)
+
+  bad-outcome : (bad : ℕ) → good bad ≡ false → outcome (Bad bad) ≡ false
+  unfolding outcome autoBy unusableTick
+  bad-outcome bad h = fail-safe-not-good (s .«fsafe_type») (s .«fsafe_value») (st .last) (scaledValue s bits) (st .out) bad h
+
+  usable-outcome : outcome Usable ≡ good status
+  unfolding outcome autoBy usableTick
+  usable-outcome = alarm-status-good (alarmsOf s (st .alarms) (floatOf (bitsOf pv))) status
+
+  not-both : (a : Bool) → finite (scaledValue s bits) ≡ a → a && finite pv ≡ false → finite pv ≡ false
+  unfolding calculated
+  not-both true e h = h
+  not-both false e h = filtered-unfinished (s .«pv_ftime») (st .filter) (scaledValue s bits) e
+
+  -- In Auto, OUT's quality is 2 exactly when the input's is and the calculated value is finite.
+  pub good-exactly : good (autoTick s st mode bits status .out .status) ≡ good status && finite (calculated s (st .filter) bits)
+  unfolding autoTick inputOf inputStatus outcome
+  good-exactly = go (eqb (qualityOf status) 3) refl (eqb (qualityOf status) 0) refl (finite (floatOf bits)) refl (finite (scaledValue s bits) && finite pv) refl
+    where
+      by : (a b c d : Bool) → Input
+      by a b c d = cond a (Bad 0x04) (cond b (Bad status) (cond (not c) (Bad 0x10) (cond (not d) (Bad 0x04) Usable)))
+
+      go : (a : Bool) → eqb (qualityOf status) 3 ≡ a → (b : Bool) → eqb (qualityOf status) 0 ≡ b → (c : Bool) → finite (floatOf bits) ≡ c → (d : Bool) → finite (scaledValue s bits) && finite pv ≡ d → outcome (by a b c d) ≡ good status && finite pv
+      go true ea b eb c ec d ed = bad-outcome 0x04 refl ∙ sym (ap (λ (g : Bool). g && finite pv) (other-quality status 3 ea refl))
+      go false ea true eb c ec d ed =
+          let q : good status ≡ false = other-quality status 0 eb refl in
+          bad-outcome status q ∙ sym (ap (λ (g : Bool). g && finite pv) q)
+      go false ea false eb false ec d ed = bad-outcome 0x10 refl ∙ sym (and-false (good status) (finite pv) (calculated-unfinished s (st .filter) bits ec))
+      go false ea false eb true ec false ed = bad-outcome 0x04 refl ∙ sym (and-false (good status) (finite pv) (not-both (finite (scaledValue s bits)) refl ed))
+      go false ea false eb true ec true ed = usable-outcome ∙ sym (and-true (good status) (finite pv) (right-true (finite (scaledValue s bits)) (finite pv) ed))
+
+-- ---- OUT stays finite
+-- a single that is finite
+abbrev pub Finite : Float → Type 0
+Finite x = T (fits binary32 x) × (finite x ≡ true)
+
+-- the stored values that OUT can come from
+pub record FiniteStore (s : Settings) (st : State) : Type 0 where
+  pub value : Finite (s .«fsafe_value»)
+  pub last : st .last .some ≡ true → Finite (st .last .value)
+  pub out : finite (floatOf (st .out .bits)) ≡ true
+  pub operator : finite (floatOf (st .operator .bits)) ≡ true
+
+written : (x : Float) → Finite x → finite (floatOf (bitsOf x)) ≡ true
+written x h = ap finite (float-back x (h .0)) ∙ h .1
+
+scaled-fits : (s : Settings) (bits : ℕ) → T (fits binary32 (scaledValue s bits))
+unfolding scaledValue scaledOf atFraction
+scaled-fits s bits = add-fits binary32 _ _
+
+calculated-fits : (s : Settings) (old : Kept) (bits : ℕ) → T (fits binary32 (calculated s old bits))
+unfolding calculated filtered
+calculated-fits s old bits = go (eq (s .«pv_ftime») (ofInt binary32 (pos 0)) || not (old .some))
+  where
+    x : Float
+    x = scaledValue s bits
+
+    sum : Float
+    sum = add binary32 (old .value) (div binary32 (sub binary32 x (old .value)) (add binary32 (mul binary32 (s .«pv_ftime») (ofInt binary32 (pos 10))) (ofInt binary32 (pos 1))))
+
+    go : (b : Bool) → T (fits binary32 (cond b x sum))
+    go true = scaled-fits s bits
+    go false = add-fits binary32 _ _
+
+fail-safe-finite : (s : Settings) (st : State) → FiniteStore s st → (bits bad : ℕ) → finite (floatOf (failSafeOut (s .«fsafe_type») (s .«fsafe_value») (st .last) (scaledValue s bits) (st .out) bad .bits)) ≡ true
+unfolding failSafeOut ofBits
+fail-safe-finite s st h bits bad = go (eqb (s .«fsafe_type») 0) (eqb (s .«fsafe_type») 1) (st .last .some) (h .last) (finite (scaledValue s bits)) refl
+  where
+    go : (a b c : Bool) → (c ≡ true → Finite (st .last .value)) → (d : Bool) → finite (scaledValue s bits) ≡ d
+        → finite (floatOf (cond {A = Pair} a (record { bits = bitsOf (s .«fsafe_value»); status = 0x48 }) (cond b (cond c (record { bits = bitsOf (st .last .value); status = 0x44 }) (record { bits = 0; status = 0x4c })) (cond d (record { bits = bitsOf (scaledValue s bits); status = bad }) (record { bits = st .out .bits; status = bad }))) .bits)) ≡ true
+    go true b c l d e = written (s .«fsafe_value») (h .value)
+    go false true true l d e = written (st .last .value) (l refl)
+    go false true false l d e = refl
+    go false false c l true e = written (scaledValue s bits) (scaled-fits s bits, e)
+    go false false c l false e = h .out
+
+module _ (s : Settings) (st : State) (h : FiniteStore s st) (mode bits status : ℕ) where
+  -- OUT of an Auto tick is finite (in Man it is the operator's, in O/S the old one).
+  pub out-finite : finite (floatOf (autoTick s st mode bits status .out .bits)) ≡ true
+  unfolding autoTick inputOf inputStatus autoBy usableTick unusableTick
+  out-finite = go (eqb (qualityOf status) 3) (eqb (qualityOf status) 0) (not (finite (floatOf bits))) (finite (scaledValue s bits)) (finite pv) refl
+    where
+      pv : Float
+      pv = calculated s (st .filter) bits
+
+      held : (bad : ℕ) → finite (floatOf (unusableTick s st mode (scaledValue s bits) bad .out .bits)) ≡ true
+      held bad = fail-safe-finite s st h bits bad
+
+      go : (a b c d e : Bool) → finite pv ≡ e → finite (floatOf (autoBy s st mode bits status (cond a (Bad 0x04) (cond b (Bad status) (cond c (Bad 0x10) (cond (not (d && e)) (Bad 0x04) Usable)))) .out .bits)) ≡ true
+      go true b c d e p = held 0x04
+      go false true c d e p = held status
+      go false false true d e p = held 0x10
+      go false false false false e p = held 0x04
+      go false false false true false p = held 0x04
+      go false false false true true p = written pv (calculated-fits s (st .filter) bits, p)

@@ -1,0 +1,5 @@
+pub mod Scaling
+pub mod Alarm
+pub mod Tick
+pub mod State
+pub mod Laws

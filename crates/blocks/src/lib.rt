@@ -1,0 +1,97 @@
+// What the function blocks have in common: modes, kept values, the state of an output out of service, and the
+// classification of a transducer's status (paper 01, "Mode", "Parameters", "AIN tick").
+ghost use mathlib.Core.Path.{_≡_};
+ghost use Rattle.blocks.specs.Common.{actualMode, heldOut, freshOperator, none, kept, inputStatus};
+use wire::Pair;
+
+// The codes of the modes.
+pub const OUT_OF_SERVICE: u8 = 0x80;
+
+pub const MAN: u8 = 0x10;
+
+pub const AUTO: u8 = 0x08;
+
+pub const RCAS: u8 = 0x02;
+
+// A value that may be missing; while it is, the value is 0.
+#[repr(C)]
+pub struct Kept {
+    pub some: bool,
+    pub value: f32,
+}
+
+// A transducer's input: usable, or Bad with the status that the tick goes by.
+pub enum Input {
+    Usable,
+    Bad(u8),
+}
+
+pub fn actual_mode(fault: bool, target: u8) -> u8
+    ensures { λ r. ⌜ r ≡ actualMode fault target ⌝ }
+{
+    let off = fault | (target == OUT_OF_SERVICE);
+    if off {
+        return OUT_OF_SERVICE;
+    }
+    target
+}
+
+// An output of a block out of service.
+pub fn held(out: Pair) -> Pair
+    ensures { λ r. ⌜ r ≡ heldOut out ⌝ }
+{
+    Pair {
+        bits: out.bits,
+        status: 0x1f,
+    }
+}
+
+// The operator's pair before any was written.
+pub fn fresh_operator() -> Pair
+    ensures { λ r. ⌜ r ≡ freshOperator ⌝ }
+{
+    Pair {
+        bits: 0,
+        status: 0x4c,
+    }
+}
+
+pub fn nothing() -> Kept
+    ensures { λ r. ⌜ r ≡ none ⌝ }
+{
+    Kept {
+        some: false,
+        value: 0.0,
+    }
+}
+
+pub fn keep(x: f32) -> Kept
+    ensures { λ r. ⌜ r ≡ kept x ⌝ }
+{
+    Kept {
+        some: true,
+        value: x,
+    }
+}
+
+// What a tick goes by: the status received, whether the value is finite, and whether what is calculated of it is.
+pub fn input_status(status: u8, value: bool, calculated: bool) -> Input
+    ensures { λ r. ⌜ r ≡ inputStatus status value calculated ⌝ }
+{
+    let quality = wire::quality(status);
+    let cascade = quality == 3;
+    let bad = quality == 0;
+    if cascade {
+        return Input::Bad(0x04);
+    }
+    if bad {
+        return Input::Bad(status);
+    }
+    if !value {
+        return Input::Bad(0x10);
+    }
+    if !calculated {
+        return Input::Bad(0x04);
+    }
+    Input::Usable
+}
