@@ -1,0 +1,3 @@
+pub mod Total
+pub mod Tick
+pub mod State
