@@ -2,14 +2,14 @@
 -- low bits leaves, and that the result is a float exactly. Assumes nothing.
 use mathlib.Core.Path.{_≡_, refl, sym, ap, _∙_, subst}
 use mathlib.Core.Bool.{Bool, true, false, not, _&&_, _||_, cond, true≢false}
-use Prim.Native.Nat.{ℕ, zero, suc, _+_, _-_, _*_, _/_, _^_, _≤_, _<_, min}
-use native.Mathlib.Nat.{le-trans, le-of-eq, le-of-lt, lt-of-lt-of-le, lt-of-le-of-lt, zero-lt-suc, mul-one, mul-assoc, div-one, div-mul-le-self, le-div-iff-mul-le, mul-pos, not-le-of-lt, lt-irrefl, lt-of-not-le, one-mul, zero-div}
+use Prim.Native.Nat.{ℕ, zero, suc, _+_, _-_, _*_, _/_, _^_, _≤_, _<_, min, zero-le}
+use native.Mathlib.Nat.{le-trans, le-of-eq, le-of-lt, lt-of-lt-of-le, lt-of-le-of-lt, zero-lt-suc, mul-one, mul-assoc, div-one, div-mul-le-self, le-div-iff-mul-le, mul-pos, not-le-of-lt, lt-irrefl, lt-of-not-le, one-mul, zero-div, zero-mul}
 use native.Mathlib.Omega.{arith}
 use lib.Dec.{T, ltb, eqb, le→leb, leb→le, ltb→lt, nltb→le, eqb→eq, lit≤, lit<}
 use lib.Pow.{pow-add, pow-pos, pow-mono, shl-lt}
 use lib.IntN.{ℤ, pos, negsuc, negℤ, natAbs, subℕ, _+ℤ_, _-ℤ_, +ℤ-assoc, +ℤ-comm, +ℤ-idl, +ℤ-invr, negℤ-+ℤ}
-use lib.Signed.{mag, leZ, _≤ℤ_, ≤ℤ-refl}
-use lib.Ieee.{Float, nan, inf, fin, Format, binary32, prec, emax, low, up, down, size, round, odd, units, neg, le, ofInt, toSigned}
+use lib.Signed.{mag, nonNeg, leZ, _≤ℤ_, ≤ℤ-refl}
+use lib.Ieee.{Float, nan, inf, fin, Format, binary32, binary64, prec, emax, low, up, down, size, round, odd, units, neg, le, ofInt, toSigned}
 use lib.Ieee.Digits.{size-lt, size-le, size-reaches}
 use lib.Ieee.Fits.{kept-lt, round-is, down-pos}
 use lib.Ieee.Exact.{HasValue, round-exact}
@@ -26,7 +26,7 @@ pub cond-has : (t : Bool) (x y : ℤ) (P : ℤ → Type 0) → (T t → P x) →
 cond-has true x y P f g = f tt
 cond-has false x y P f g = g tt
 
--- |a − b| for naturals
+-- how far two numbers lie apart, by their signs
 gap : (a b : ℕ) → natAbs (subℕ a b) ≡ (a - b) + (b - a)
 gap a b = cond-has (ltb a b) (negsuc (b - suc a)) (pos (a - b)) (λ z. natAbs z ≡ (a - b) + (b - a))
     (λ t. under a b (ltb→lt a b t)) (λ t. over a b (nltb→le a b t))
@@ -37,21 +37,21 @@ gap a b = cond-has (ltb a b) (negsuc (b - suc a)) (pos (a - b)) (λ z. natAbs z 
     over : (a b : ℕ) → b ≤ a → a - b ≡ (a - b) + (b - a)
     over a b h = omega arith
 
-apart-pp : (a b : ℕ) → natAbs (pos a -ℤ pos b) ≡ (a - b) + (b - a)
+pub apart-pp : (a b : ℕ) → natAbs (pos a -ℤ pos b) ≡ (a - b) + (b - a)
 apart-pp a zero = omega arith
 apart-pp a (suc b) = gap a (suc b)
 
-apart-pn : (a b : ℕ) → natAbs (pos a -ℤ negℤ (pos b)) ≡ a + b
+pub apart-pn : (a b : ℕ) → natAbs (pos a -ℤ negℤ (pos b)) ≡ a + b
 apart-pn a zero = refl
 apart-pn a (suc b) = refl
 
-apart-np : (a b : ℕ) → natAbs (negℤ (pos a) -ℤ pos b) ≡ a + b
+pub apart-np : (a b : ℕ) → natAbs (negℤ (pos a) -ℤ pos b) ≡ a + b
 apart-np zero zero = refl
 apart-np zero (suc b) = ap natAbs (+ℤ-idl (negsuc b)) ∙ omega arith
 apart-np (suc a) zero = gap zero (suc a) ∙ omega arith
 apart-np (suc a) (suc b) = omega arith
 
-apart-nn : (a b : ℕ) → natAbs (negℤ (pos a) -ℤ negℤ (pos b)) ≡ (a - b) + (b - a)
+pub apart-nn : (a b : ℕ) → natAbs (negℤ (pos a) -ℤ negℤ (pos b)) ≡ (a - b) + (b - a)
 apart-nn zero zero = refl
 apart-nn zero (suc b) = ap natAbs (+ℤ-idl (pos (suc b))) ∙ omega arith
 apart-nn (suc a) zero = gap zero (suc a) ∙ omega arith
@@ -314,12 +314,49 @@ round-finite f s a c b d C D h t = go s
     go false = plain
     go true = subst (λ (x : Float). T (finite x)) (neg-round f a c) (neg-finite (round f false a c) plain)
 
--- the value given is finite, whatever the total
-pub value-of-finite : (z : ℤ) → natAbs z ≤ 2 ^ 63 → T (finite (ofInt binary32 (highest24ℤ z)))
+-- the highest bits of a whole number of an i64, as a float: exactly that number, and so finite
+pub value-exact : (z : ℤ) → natAbs z ≤ 2 ^ 63 → HasValue (ofInt binary32 (highest24ℤ z)) (not (nonNeg z)) (highest24 (natAbs z)) 1
 unfolding ofInt highest24ℤ
-value-of-finite (pos m) h = value-finite (round binary32 false (highest24 m) 1) false (highest24 m) 1 (highest-value false m (lt-of-le-of-lt h (lit< tt)))
-value-of-finite (negsuc m) h = go (highest24 (suc m)) (highest-value true (suc m) (lt-of-le-of-lt h (lit< tt)))
+value-exact (pos m) h = highest-value false m (lt-of-le-of-lt h (lit< tt))
+value-exact (negsuc m) h = go (highest24 (suc m)) (highest-pos 24 (suc m) (lit< tt) (zero-lt-suc m)) (highest-value true (suc m) (lt-of-le-of-lt h (lit< tt)))
   where
-    go : (n : ℕ) → HasValue (round binary32 true n 1) true n 1 → T (finite (ofInt binary32 (negℤ (pos n))))
-    go zero v = unfold round in tt
-    go (suc n) v = value-finite (round binary32 true (suc n) 1) true (suc n) 1 v
+    go : (n : ℕ) → 0 < n → HasValue (round binary32 true n 1) true n 1 → HasValue (ofInt binary32 (negℤ (pos n))) true n 1
+    go zero p v = absurd (lt-irrefl 0 p)
+    go (suc n) p v = v
+
+pub value-of-finite : (z : ℤ) → natAbs z ≤ 2 ^ 63 → T (finite (ofInt binary32 (highest24ℤ z)))
+value-of-finite z h = value-finite (ofInt binary32 (highest24ℤ z)) (not (nonNeg z)) (highest24 (natAbs z)) 1 (value-exact z h)
+
+-- ---- a rounded fraction, cut
+
+-- the cut of -x lies as far from 0 as that of x, unless x reaches an end
+pub cut-neg : (x : Float) (n : ℕ) → n < 2 ^ 63 - 1 → natAbs (cutOf x) ≤ n → natAbs (cutOf (neg x)) ≤ n
+unfolding neg toSigned
+cut-neg nan n N h = h
+cut-neg (inf true) n N h = absurd (not-le-of-lt N (le-trans (lit≤ tt) h))
+cut-neg (inf false) n N h = absurd (not-le-of-lt N h)
+cut-neg (fin true m e) n N h = let k : min (m * up e / down e) (2 ^ 63) ≤ n = rw natAbs-neg at h in omega arith
+cut-neg (fin false m e) n N h = rw natAbs-neg (omega arith)
+
+between : (z : ℤ) (n : ℕ) → pos 0 ≤ℤ z → z ≤ℤ pos n → natAbs z ≤ n
+between (pos a) n h k = leb→le a n (k .le)
+between (negsuc a) n h k = absurd (h .le)
+
+zero-cut : (f : Format) → cutOf (round f false 0 1) ≡ pos 0
+unfolding round toSigned
+zero-cut binary32 = refl
+zero-cut binary64 = refl
+
+-- a fraction no larger than one whose float is cut to n is cut to within n
+pub cut-round-within : (f : Format) (s : Bool) (a c b d n : ℕ) → 0 < c → 0 < d → a * d ≤ b * c → cutOf (round f false b d) ≡ pos n → n < 2 ^ 63 - 1 → natAbs (cutOf (round f s a c)) ≤ n
+cut-round-within f s a c b d n C D h e N = go s
+  where
+    plain : natAbs (cutOf (round f false a c)) ≤ n
+    plain =
+        between (cutOf (round f false a c)) n
+        (subst (λ (z : ℤ). z ≤ℤ cutOf (round f false a c)) (zero-cut f) (cut-mono (round f false 0 1) (round f false a c) (round-mono f 0 1 a c (zero-lt-suc 0) C (le-trans (le-of-eq (zero-mul c)) zero-le))))
+        (subst (λ (z : ℤ). cutOf (round f false a c) ≤ℤ z) e (cut-mono (round f false a c) (round f false b d) (round-mono f a c b d C D h)))
+
+    go : (s : Bool) → natAbs (cutOf (round f s a c)) ≤ n
+    go false = plain
+    go true = subst (λ (x : Float). natAbs (cutOf x) ≤ n) (neg-round f a c) (cut-neg (round f false a c) n N plain)

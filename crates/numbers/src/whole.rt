@@ -2,7 +2,7 @@
 // a float. Every function takes every argument.
 ghost use mathlib.Core.Path.{_≡_};
 ghost use Prim.Native.Nat.{_^_, _≤_};
-ghost use lib.IntN.{pos, _+ℤ_};
+ghost use lib.IntN.{pos, natAbs, _+ℤ_};
 ghost use lib.Ieee.{binary32, ofInt};
 ghost use Rattle.numbers.specs.Whole.{cutOf, limit, bound, saturated, highest24, highest24ℤ};
 
@@ -92,13 +92,24 @@ pub fn highest(m: u64) -> f32
     top * power(i) * power(k - i)
 }
 
+// The magnitude of z: that of i64::MIN too.
+pub fn magnitude(z: i64) -> u64
+    ensures { λ r. ⌜ r ≡ natAbs z ⌝ }
+{
+    if z < 0 {
+        let less = (-1 - z) as u64;
+        return less + 1;
+    }
+    z as u64
+}
+
 // The total with all but the 24 highest bits of its magnitude cleared, as a float.
 pub fn value_of(total: i64) -> f32
     ensures { λ r. ⌜ r ≡ ofInt binary32 (highest24ℤ total) ⌝ }
 {
+    let value = highest(magnitude(total));
     if total < 0 {
-        let below = (-1 - total) as u64;
-        return -highest(below + 1);
+        return -value;
     }
-    highest(total as u64)
+    value
 }

@@ -1,3 +1,4 @@
 pub mod Total
 pub mod Tick
 pub mod State
+pub mod Laws
