@@ -1,0 +1,41 @@
+-- A pair on the bus and back, from paper 01, "Status byte", with the refusal of "Refused calls". Assumes nothing.
+use Prim.Native.Nat.{ℕ, _+_, _*_, _/_, _%_, _^_}
+use mathlib.Core.Bool.{Bool, cond}
+use mathlib.Core.List.{List, [], _∷_, _++_}
+use lib.ListN.{length, getD, take, drop}
+use lib.Dec.{leb, eqb}
+use Rattle.wire.specs.declared.Pair.{Pair}
+use Rattle.wire.specs.declared.Refusal.the-variants.{WrongLength}
+use Rattle.wire.specs.declared.Answer.{Answer}
+use Rattle.wire.specs.declared.Received.{Received}
+
+-- a 32-bit word, "highest byte first"
+abbrev pub wordBytes : ℕ → List ℕ
+wordBytes n = n / 2 ^ 24 ∷ n / 2 ^ 16 % 256 ∷ n / 2 ^ 8 % 256 ∷ n % 256 ∷ []
+
+-- "On the bus a value is its float, highest byte first, then its status: five bytes."
+abbrev pub fiveBytes : Pair → List ℕ
+fiveBytes p = wordBytes (p .bits) ++ (p .status ∷ [])
+
+-- the word of four bytes, highest byte first
+abbrev pub wordOf : ℕ → ℕ → ℕ → ℕ → ℕ
+wordOf a b c d = a * 2 ^ 24 + b * 2 ^ 16 + c * 2 ^ 8 + d
+
+-- the pair of exactly five bytes; "telegram not 5 bytes": refused
+unfoldable pub pairOf : List ℕ → Received
+pairOf s = cond (eqb (length s) 5) (Received.Value (record { bits = wordOf (getD s 0 0) (getD s 1 0) (getD s 2 0) (getD s 3 0); status = getD s 4 0 })) (Received.Refused WrongLength)
+
+-- bs in the place of as many bytes of s from at on, the bytes before and after unchanged
+abbrev pub replaced : List ℕ → ℕ → List ℕ → List ℕ
+replaced s at bs = take at s ++ bs ++ drop (at + length bs) s
+
+-- s has five bytes at the place at
+abbrev pub fiveFit : List ℕ → ℕ → Bool
+fiveFit s at = leb (at + 5) (length s)
+
+-- a pair's five bytes put at a place of a buffer: where they do not fit the call is refused and no byte changed
+unfoldable pub putAnswer : List ℕ → ℕ → Answer
+putAnswer s at = cond (fiveFit s at) Answer.Accepted (Answer.Refused WrongLength)
+
+unfoldable pub putBytes : List ℕ → ℕ → Pair → List ℕ
+putBytes s at p = cond (fiveFit s at) (replaced s at (fiveBytes p)) s
