@@ -1,0 +1,15 @@
+use Rattle.ao.proofs.actual_mode.Statement.{statement}
+use Rattle.ao.proofs.actual_mode.Tie as tie
+use Rattle.ao.proofs.actual_mode.Reads as reads
+use Rattle.ao.proofs.actual_mode.Lts as lts
+
+-- src/lib.rt:347:9
+returns : tie.Need-returns
+returns c = ?
+
+-- src/lib.rt:342:1
+returns-2 : tie.Need-returns-2
+returns-2 c = ?
+
+pub actual-mode-spec : {M : Type 1} → statement M
+actual-mode-spec = tie.close (tie.spec returns returns-2)

@@ -1,0 +1,82 @@
+use borrow.Author.Needs.{needs}
+use Rattle.ao.proofs.given_by.Statement.{statement}
+use Rattle.ao.proofs.given_by.Tie as tie
+use Rattle.ao.proofs.given_by.Reads as reads
+use Rattle.ao.proofs.given_by.Lts as lts
+use Rattle.ao.proofs.at_position.Reads as at-position-reads
+use Rattle.ao.proofs.scaled_or.Reads as scaled-or-reads
+
+-- src/lib.rt:314:25
+enum-known-case : tie.Need-enum-known-case
+enum-known-case c = search needs
+
+-- src/lib.rt:314:31
+scaled-or-requires : tie.Need-scaled-or-requires
+scaled-or-requires c κs = search needs
+
+-- src/lib.rt:315:24
+enum-known-case-2 : tie.Need-enum-known-case-2
+enum-known-case-2 c = search needs
+
+-- src/lib.rt:315:30
+scaled-or-requires-2 : tie.Need-scaled-or-requires-2
+scaled-or-requires-2 c κs = search needs
+
+-- src/lib.rt:316:20
+enum-known-case-3 : tie.Need-enum-known-case-3
+enum-known-case-3 c = search needs
+
+-- src/lib.rt:316:26
+scaled-or-requires-3 : tie.Need-scaled-or-requires-3
+scaled-or-requires-3 c κs = search needs
+
+-- src/lib.rt:317:30
+enum-told : tie.Need-enum-told
+enum-told c = search needs
+
+-- src/lib.rt:317:30
+at-position-requires : tie.Need-at-position-requires
+at-position-requires c κs = search needs
+
+-- src/lib.rt:319:18
+enum-told-2 : tie.Need-enum-told-2
+enum-told-2 c = search needs
+
+-- src/lib.rt:310:1
+returns : tie.Need-returns
+returns c = ?
+
+-- src/lib.rt:310:1
+returns-2 : tie.Need-returns-2
+returns-2 c = ?
+
+-- src/lib.rt:310:1
+returns-3 : tie.Need-returns-3
+returns-3 c = ?
+
+-- src/lib.rt:310:1
+returns-4 : tie.Need-returns-4
+returns-4 c = ?
+
+-- src/lib.rt:310:1
+returns-5 : tie.Need-returns-5
+returns-5 c = ?
+
+pub given-by-spec : {M : Type 1} → statement M
+given-by-spec =
+    tie.close
+    (tie.spec
+    enum-known-case
+    scaled-or-requires
+    enum-known-case-2
+    scaled-or-requires-2
+    enum-known-case-3
+    scaled-or-requires-3
+    enum-told
+    at-position-requires
+    enum-told-2
+    returns
+    returns-2
+    returns-3
+    returns-4
+    returns-5)

@@ -1,0 +1,63 @@
+use borrow.Author.Needs.{needs}
+use Rattle.ao.proofs.heard.Statement.{statement}
+use Rattle.ao.proofs.heard.Tie as tie
+use Rattle.ao.proofs.heard.Reads as reads
+use Rattle.ao.proofs.heard.Lts as lts
+use Rattle.ao.proofs.class_of.Reads as class-of-reads
+use Rattle.numbers.proofs.floats.float_of.Reads as float-of-reads
+use Rattle.numbers.proofs.floats.is_finite.Reads as is-finite-reads
+
+-- src/lib.rt:164:9
+float-of-requires : tie.Need-float-of-requires
+float-of-requires c κs = search needs
+
+-- src/lib.rt:165:9
+is-finite-requires : tie.Need-is-finite-requires
+is-finite-requires c κs = search needs
+
+-- src/lib.rt:166:9
+class-of-requires : tie.Need-class-of-requires
+class-of-requires c κs = search needs
+
+-- src/lib.rt:169:16
+enum-told : tie.Need-enum-told
+enum-told c = search needs
+
+-- src/lib.rt:170:17
+returns : tie.Need-returns
+returns c = ?
+
+-- src/lib.rt:179:36
+enum-told-2 : tie.Need-enum-told-2
+enum-told-2 c = search needs
+
+-- src/lib.rt:185:27
+enum-told-3 : tie.Need-enum-told-3
+enum-told-3 c = search needs
+
+-- src/lib.rt:161:1
+returns-2 : tie.Need-returns-2
+returns-2 c = ?
+
+-- src/lib.rt:161:1
+returns-3 : tie.Need-returns-3
+returns-3 c = ?
+
+-- src/lib.rt:161:1
+returns-4 : tie.Need-returns-4
+returns-4 c = ?
+
+pub heard-spec : {M : Type 1} → statement M
+heard-spec =
+    tie.close
+    (tie.spec
+    float-of-requires
+    is-finite-requires
+    class-of-requires
+    enum-told
+    returns
+    enum-told-2
+    enum-told-3
+    returns-2
+    returns-3
+    returns-4)

@@ -1,0 +1,11 @@
+use Rattle.ao.proofs.no_telegrams.Statement.{statement}
+use Rattle.ao.proofs.no_telegrams.Tie as tie
+use Rattle.ao.proofs.no_telegrams.Reads as reads
+use Rattle.ao.proofs.no_telegrams.Lts as lts
+
+-- src/lib.rt:86:1
+returns : tie.Need-returns
+returns c = ?
+
+pub no-telegrams-spec : {M : Type 1} → statement M
+no-telegrams-spec = tie.close (tie.spec returns)

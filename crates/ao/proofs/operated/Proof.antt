@@ -1,0 +1,11 @@
+use Rattle.ao.proofs.operated.Statement.{statement}
+use Rattle.ao.proofs.operated.Tie as tie
+use Rattle.ao.proofs.operated.Reads as reads
+use Rattle.ao.proofs.operated.Lts as lts
+
+-- src/lib.rt:127:1
+returns : tie.Need-returns
+returns c = ?
+
+pub operated-spec : {M : Type 1} → statement M
+operated-spec = tie.close (tie.spec returns)

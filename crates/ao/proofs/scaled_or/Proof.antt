@@ -1,0 +1,49 @@
+use borrow.Author.Needs.{needs}
+use Rattle.ao.proofs.scaled_or.Statement.{statement}
+use Rattle.ao.proofs.scaled_or.Tie as tie
+use Rattle.ao.proofs.scaled_or.Reads as reads
+use Rattle.ao.proofs.scaled_or.Lts as lts
+use Rattle.ao.proofs.at_position.Reads as at-position-reads
+use Rattle.ao.proofs.scaled_out.Reads as scaled-out-reads
+use Rattle.numbers.proofs.floats.bits_of.Reads as bits-of-reads
+use Rattle.numbers.proofs.floats.is_finite.Reads as is-finite-reads
+
+-- src/lib.rt:301:9
+scaled-out-requires : tie.Need-scaled-out-requires
+scaled-out-requires c κs = search needs
+
+-- src/lib.rt:302:9
+is-finite-requires : tie.Need-is-finite-requires
+is-finite-requires c κs = search needs
+
+-- src/lib.rt:304:13
+bits-of-requires : tie.Need-bits-of-requires
+bits-of-requires c κs = search needs
+
+-- src/lib.rt:305:9
+at-position-requires : tie.Need-at-position-requires
+at-position-requires c κs = search needs
+
+-- src/lib.rt:305:9
+returns : tie.Need-returns
+returns c = ?
+
+-- src/lib.rt:307:5
+at-position-requires-2 : tie.Need-at-position-requires-2
+at-position-requires-2 c κs = search needs
+
+-- src/lib.rt:298:1
+returns-2 : tie.Need-returns-2
+returns-2 c = ?
+
+pub scaled-or-spec : {M : Type 1} → statement M
+scaled-or-spec =
+    tie.close
+    (tie.spec
+    scaled-out-requires
+    is-finite-requires
+    bits-of-requires
+    at-position-requires
+    returns
+    at-position-requires-2
+    returns-2)

@@ -1,0 +1,47 @@
+use borrow.Author.Needs.{needs}
+use Rattle.ao.proofs.telegram.Statement.{statement}
+use Rattle.ao.proofs.telegram.Tie as tie
+use Rattle.ao.proofs.telegram.Reads as reads
+use Rattle.ao.proofs.telegram.Lts as lts
+use Rattle.ao.proofs.taken_on.Reads as taken-on-reads
+use Rattle.wire.proofs.pair_of.Reads as pair-of-reads
+
+-- src/lib.rt:223:9
+returns : tie.Need-returns
+returns c = ?
+
+-- src/lib.rt:228:9
+pair-of-requires : tie.Need-pair-of-requires
+pair-of-requires c κs = search needs
+
+-- src/lib.rt:230:25
+enum-known-received : tie.Need-enum-known-received
+enum-known-received c = search needs
+
+-- src/lib.rt:231:17
+taken-on-requires : tie.Need-taken-on-requires
+taken-on-requires c κs = search needs
+
+-- src/lib.rt:237:27
+enum-known-received-2 : tie.Need-enum-known-received-2
+enum-known-received-2 c = search needs
+
+-- src/lib.rt:218:1
+returns-2 : tie.Need-returns-2
+returns-2 c = ?
+
+-- src/lib.rt:218:1
+returns-3 : tie.Need-returns-3
+returns-3 c = ?
+
+pub telegram-spec : {M : Type 1} → statement M
+telegram-spec =
+    tie.close
+    (tie.spec
+    returns
+    pair-of-requires
+    enum-known-received
+    taken-on-requires
+    enum-known-received-2
+    returns-2
+    returns-3)

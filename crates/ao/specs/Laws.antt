@@ -1,0 +1,1 @@
+-- Laws of AO that callers cite. Assumes nothing.
