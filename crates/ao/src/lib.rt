@@ -147,14 +147,14 @@ pub fn class_of(status: u8) -> Class
     let quality = wire::quality(status);
     let sub_status = wire::sub_status(status);
     let good = (quality == 2) | (quality == 3);
-    if !good {
-        return Class::Neither;
-    }
     let initiates = sub_status == 8;
-    if initiates {
-        return Class::InitiateFailSafe;
+    if good {
+        if initiates {
+            return Class::InitiateFailSafe;
+        }
+        return Class::Usable;
     }
-    Class::Usable
+    Class::Neither
 }
 
 // The input after a telegram on it.
@@ -257,13 +257,13 @@ fn fail_safe_case(kind: u8, fsafe_value: f32, some: bool, last: f32) -> Case
         return Case::Fallback(fsafe_value);
     }
     let one = kind == 1;
-    if !one {
-        return Case::Safety;
+    if one {
+        if some {
+            return Case::Held(last);
+        }
+        return Case::NothingHeld;
     }
-    if some {
-        return Case::Held(last);
-    }
-    Case::NothingHeld
+    Case::Safety
 }
 
 // ---- what a case gives
@@ -381,13 +381,13 @@ fn given_in(settings: Settings, state: State, mode: u8) -> Given
 fn silence_after(some: bool, n: u32) -> u32
     ensures { λ r. ⌜ r ≡ silenceAfter some n ⌝ }
 {
-    if !some {
-        return 0;
+    if some {
+        if n < 65536 {
+            return n + 1;
+        }
+        return 65536;
     }
-    if n < 65536 {
-        return n + 1;
-    }
-    65536
+    0
 }
 
 fn after_tick(input: Input) -> Input

@@ -1,3 +1,6 @@
+-- `ao::actual_mode` meets its contract: the test is the definition's.
+-- Assumes nothing.
+use Rattle.ao.specs.Tick.{actualMode}
 use Rattle.ao.proofs.actual_mode.Statement.{statement}
 use Rattle.ao.proofs.actual_mode.Tie as tie
 use Rattle.ao.proofs.actual_mode.Reads as reads
@@ -5,11 +8,13 @@ use Rattle.ao.proofs.actual_mode.Lts as lts
 
 -- src/lib.rt:347:9
 returns : tie.Need-returns
-returns c = ?
+unfolding actualMode
+returns c = rw (c .if1 .taken)
 
 -- src/lib.rt:342:1
 returns-2 : tie.Need-returns-2
-returns-2 c = ?
+unfolding actualMode
+returns-2 c = rw (c .if1 .left)
 
 pub actual-mode-spec : {M : Type 1} → statement M
 actual-mode-spec = tie.close (tie.spec returns returns-2)

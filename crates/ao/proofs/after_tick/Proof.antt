@@ -1,3 +1,6 @@
+-- `ao::after_tick` meets its contract: `silence_after` counts, and the rest is kept.
+-- Assumes nothing.
+use Rattle.ao.specs.FailSafe.{afterTick}
 use borrow.Author.Needs.{needs}
 use Rattle.ao.proofs.after_tick.Statement.{statement}
 use Rattle.ao.proofs.after_tick.Tie as tie
@@ -11,7 +14,8 @@ silence-after-requires c κs = search needs
 
 -- src/lib.rt:393:1
 returns : tie.Need-returns
-returns c = ?
+unfolding afterTick
+returns c = rw (c .silence-after .ensures)
 
 pub after-tick-spec : {M : Type 1} → statement M
 after-tick-spec = tie.close (tie.spec silence-after-requires returns)

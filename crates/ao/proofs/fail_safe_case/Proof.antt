@@ -1,3 +1,6 @@
+-- `ao::fail_safe_case` meets its contract: the tests are the definition's.
+-- Assumes nothing.
+use Rattle.ao.specs.FailSafe.{failSafeCase}
 use Rattle.ao.proofs.fail_safe_case.Statement.{statement}
 use Rattle.ao.proofs.fail_safe_case.Tie as tie
 use Rattle.ao.proofs.fail_safe_case.Reads as reads
@@ -5,19 +8,23 @@ use Rattle.ao.proofs.fail_safe_case.Lts as lts
 
 -- src/lib.rt:257:9
 returns : tie.Need-returns
-returns c = ?
+unfolding failSafeCase
+returns c = rw (c .if1 .taken)
 
--- src/lib.rt:261:9
+-- src/lib.rt:262:13
 returns-2 : tie.Need-returns-2
-returns-2 c = ?
+unfolding failSafeCase
+returns-2 c = rw (c .before .before .if1 .left, c .before .if2 .taken, c .if3 .taken)
 
 -- src/lib.rt:264:9
 returns-3 : tie.Need-returns-3
-returns-3 c = ?
+unfolding failSafeCase
+returns-3 c = rw (c .before .before .if1 .left, c .before .if2 .taken, c .if3 .left)
 
 -- src/lib.rt:252:1
 returns-4 : tie.Need-returns-4
-returns-4 c = ?
+unfolding failSafeCase
+returns-4 c = rw (c .before .if1 .left, c .if2 .left)
 
 pub fail-safe-case-spec : {M : Type 1} → statement M
 fail-safe-case-spec = tie.close (tie.spec returns returns-2 returns-3 returns-4)

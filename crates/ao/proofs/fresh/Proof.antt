@@ -1,3 +1,6 @@
+-- `ao::fresh` meets its contract: a start with the value 0.
+-- Assumes nothing.
+use Rattle.ao.specs.State.{freshState}
 use borrow.Author.Needs.{needs}
 use Rattle.ao.proofs.fresh.Statement.{statement}
 use Rattle.ao.proofs.fresh.Tie as tie
@@ -11,7 +14,8 @@ start-requires c κs = search needs
 
 -- src/lib.rt:114:1
 returns : tie.Need-returns
-returns c = ?
+unfolding freshState
+returns c = c .start .ensures
 
 pub fresh-spec : {M : Type 1} → statement M
 fresh-spec = tie.close (tie.spec start-requires returns)

@@ -1,3 +1,7 @@
+-- `ao::given_by` meets its contract: each arm gives what the definition says of its case.
+-- Assumes nothing.
+use Rattle.ao.specs.FailSafe.{leadsTo}
+use Rattle.ao.specs.Tick.{givenBy}
 use borrow.Author.Needs.{needs}
 use Rattle.ao.proofs.given_by.Statement.{statement}
 use Rattle.ao.proofs.given_by.Tie as tie
@@ -44,23 +48,28 @@ enum-told-2 c = search needs
 
 -- src/lib.rt:310:1
 returns : tie.Need-returns
-returns c = ?
+unfolding givenBy leadsTo
+returns c = rw (c .scaled-or .ensures, c .before .before .case .given .1)
 
 -- src/lib.rt:310:1
 returns-2 : tie.Need-returns-2
-returns-2 c = ?
+unfolding givenBy leadsTo
+returns-2 c = rw (c .scaled-or2 .ensures, c .before .before .case2 .given .1)
 
 -- src/lib.rt:310:1
 returns-3 : tie.Need-returns-3
-returns-3 c = ?
+unfolding givenBy leadsTo
+returns-3 c = rw (c .scaled-or3 .ensures, c .before .before .case3 .given .1)
 
 -- src/lib.rt:310:1
 returns-4 : tie.Need-returns-4
-returns-4 c = ?
+unfolding givenBy leadsTo
+returns-4 c = rw (c .at-position .ensures, c .before .enum-told .given .1)
 
 -- src/lib.rt:310:1
 returns-5 : tie.Need-returns-5
-returns-5 c = ?
+unfolding givenBy leadsTo
+returns-5 c = rw (c .enum-told2 .given .1)
 
 pub given-by-spec : {M : Type 1} → statement M
 given-by-spec =

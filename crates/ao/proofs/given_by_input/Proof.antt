@@ -1,3 +1,7 @@
+-- `ao::given_by_input` meets its contract: the decision and the case are the definition's.
+-- Assumes nothing.
+use Rattle.ao.specs.FailSafe.{caseOf}
+use Rattle.ao.specs.Tick.{givenByInput}
 use borrow.Author.Needs.{needs}
 use Rattle.ao.proofs.given_by_input.Statement.{statement}
 use Rattle.ao.proofs.given_by_input.Tie as tie
@@ -21,7 +25,8 @@ given-by-requires c κs = search needs
 
 -- src/lib.rt:335:9
 returns : tie.Need-returns
-returns c = ?
+unfolding givenByInput caseOf
+returns c = rw (c .given-by .ensures, c .before .fail-safe-case .ensures, ← c .before .before .before .fail-safe-acts .ensures, c .before .before .if1 .taken)
 
 -- src/lib.rt:337:5
 given-by-requires-2 : tie.Need-given-by-requires-2
@@ -29,7 +34,8 @@ given-by-requires-2 c κs = search needs
 
 -- src/lib.rt:329:1
 returns-2 : tie.Need-returns-2
-returns-2 c = ?
+unfolding givenByInput caseOf
+returns-2 c = rw (c .given-by2 .ensures, ← c .before .before .fail-safe-acts .ensures, c .before .if1 .left)
 
 pub given-by-input-spec : {M : Type 1} → statement M
 given-by-input-spec =

@@ -1,3 +1,7 @@
+-- `ao::heard` meets its contract: the class of the status byte decides, and for a usable one the test of the value.
+-- Assumes nothing.
+use Rattle.ao.specs.FailSafe.{afterTelegram, usable, initiates}
+use Rattle.ao.specs.Telegram.{inputAfter}
 use borrow.Author.Needs.{needs}
 use Rattle.ao.proofs.heard.Statement.{statement}
 use Rattle.ao.proofs.heard.Tie as tie
@@ -25,7 +29,8 @@ enum-told c = search needs
 
 -- src/lib.rt:170:17
 returns : tie.Need-returns
-returns c = ?
+unfolding inputAfter afterTelegram usable initiates
+returns c = rw (← c .before .before .before .before .before .float-of .ensures, ← c .before .before .before .before .is-finite .ensures, ← c .before .before .before .class-of .ensures, c .before .enum-told .given .1, c .if1 .taken)
 
 -- src/lib.rt:179:36
 enum-told-2 : tie.Need-enum-told-2
@@ -37,15 +42,18 @@ enum-told-3 c = search needs
 
 -- src/lib.rt:161:1
 returns-2 : tie.Need-returns-2
-returns-2 c = ?
+unfolding inputAfter afterTelegram usable initiates
+returns-2 c = rw (← c .before .before .before .before .before .float-of .ensures, ← c .before .before .before .before .is-finite .ensures, ← c .before .before .before .class-of .ensures, c .before .enum-told .given .1, c .if1 .left)
 
 -- src/lib.rt:161:1
 returns-3 : tie.Need-returns-3
-returns-3 c = ?
+unfolding inputAfter afterTelegram usable initiates
+returns-3 c = rw (← c .before .before .class-of .ensures, c .enum-told2 .given .1)
 
 -- src/lib.rt:161:1
 returns-4 : tie.Need-returns-4
-returns-4 c = ?
+unfolding inputAfter afterTelegram usable initiates
+returns-4 c = rw (← c .before .before .class-of .ensures, c .enum-told3 .given .1)
 
 pub heard-spec : {M : Type 1} → statement M
 heard-spec =

@@ -1,3 +1,6 @@
+-- `ao::scaled_or` meets its contract: the test of the end result is the definition's.
+-- Assumes nothing.
+use Rattle.ao.specs.Tick.{outOf}
 use borrow.Author.Needs.{needs}
 use Rattle.ao.proofs.scaled_or.Statement.{statement}
 use Rattle.ao.proofs.scaled_or.Tie as tie
@@ -26,7 +29,8 @@ at-position-requires c κs = search needs
 
 -- src/lib.rt:305:9
 returns : tie.Need-returns
-returns c = ?
+unfolding outOf
+returns c = rw (c .at-position .ensures, c .before .bits-of .ensures, ← c .before .before .before .before .scaled-out .ensures, ← c .before .before .before .is-finite .ensures, c .before .before .if1 .taken)
 
 -- src/lib.rt:307:5
 at-position-requires-2 : tie.Need-at-position-requires-2
@@ -34,7 +38,8 @@ at-position-requires-2 c κs = search needs
 
 -- src/lib.rt:298:1
 returns-2 : tie.Need-returns-2
-returns-2 c = ?
+unfolding outOf
+returns-2 c = rw (c .at-position2 .ensures, ← c .before .before .before .scaled-out .ensures, ← c .before .before .is-finite .ensures, c .before .if1 .left)
 
 pub scaled-or-spec : {M : Type 1} → statement M
 scaled-or-spec =

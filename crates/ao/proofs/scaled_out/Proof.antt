@@ -1,3 +1,6 @@
+-- `ao::scaled_out` meets its contract: the operations of the definition, in its order.
+-- Assumes nothing.
+use Rattle.ao.specs.Tick.{scaledOut}
 use borrow.Author.Needs.{needs}
 use Rattle.ao.proofs.scaled_out.Statement.{statement}
 use Rattle.ao.proofs.scaled_out.Tie as tie
@@ -16,7 +19,8 @@ at-fraction-requires c κs = search needs
 
 -- src/lib.rt:281:9
 returns : tie.Need-returns
-returns c = ?
+unfolding scaledOut
+returns c = rw (c .at-fraction .ensures, c .before .before .fraction .ensures, c .before .if1 .taken)
 
 -- src/lib.rt:283:5
 at-fraction-requires-2 : tie.Need-at-fraction-requires-2
@@ -24,7 +28,8 @@ at-fraction-requires-2 c κs = search needs
 
 -- src/lib.rt:272:1
 returns-2 : tie.Need-returns-2
-returns-2 c = ?
+unfolding scaledOut
+returns-2 c = rw (c .at-fraction2 .ensures, c .before .before .fraction .ensures, c .before .if1 .left)
 
 pub scaled-out-spec : {M : Type 1} → statement M
 scaled-out-spec =

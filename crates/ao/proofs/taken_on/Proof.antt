@@ -1,3 +1,6 @@
+-- `ao::taken_on` meets its contract: the input named is replaced, the rest kept.
+-- Assumes nothing.
+use Rattle.ao.specs.Telegram.{takenOn}
 use borrow.Author.Needs.{needs}
 use Rattle.ao.proofs.taken_on.Statement.{statement}
 use Rattle.ao.proofs.taken_on.Tie as tie
@@ -11,7 +14,8 @@ heard-requires c κs = search needs
 
 -- src/lib.rt:200:9
 returns : tie.Need-returns
-returns c = ?
+unfolding takenOn
+returns c = rw (c .heard .ensures, c .before .if1 .taken)
 
 -- src/lib.rt:208:9
 heard-requires-2 : tie.Need-heard-requires-2
@@ -19,7 +23,8 @@ heard-requires-2 c κs = search needs
 
 -- src/lib.rt:190:1
 returns-2 : tie.Need-returns-2
-returns-2 c = ?
+unfolding takenOn
+returns-2 c = rw (c .heard2 .ensures, c .before .if1 .left)
 
 pub taken-on-spec : {M : Type 1} → statement M
 taken-on-spec = tie.close (tie.spec heard-requires returns heard-requires-2 returns-2)

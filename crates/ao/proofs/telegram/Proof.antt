@@ -1,3 +1,6 @@
+-- `ao::telegram` meets its contract: the input is tested first, and `pair_of` tests the length.
+-- Assumes nothing.
+use Rattle.ao.specs.Telegram.{telegramOf}
 use borrow.Author.Needs.{needs}
 use Rattle.ao.proofs.telegram.Statement.{statement}
 use Rattle.ao.proofs.telegram.Tie as tie
@@ -8,7 +11,8 @@ use Rattle.wire.proofs.pair_of.Reads as pair-of-reads
 
 -- src/lib.rt:223:9
 returns : tie.Need-returns
-returns c = ?
+unfolding telegramOf
+returns c = rw (c .if1 .taken)
 
 -- src/lib.rt:228:9
 pair-of-requires : tie.Need-pair-of-requires
@@ -28,11 +32,13 @@ enum-known-received-2 c = search needs
 
 -- src/lib.rt:218:1
 returns-2 : tie.Need-returns-2
-returns-2 c = ?
+unfolding telegramOf
+returns-2 c = rw (c .taken-on .ensures, c .before .before .before .before .before .if1 .left, ← c .before .before .before .before .pair-of .ensures, c .before .before .received .given .1)
 
 -- src/lib.rt:218:1
 returns-3 : tie.Need-returns-3
-returns-3 c = ?
+unfolding telegramOf
+returns-3 c = rw (c .before .before .before .before .if1 .left, ← c .before .before .before .pair-of .ensures, c .before .received2 .given .1)
 
 pub telegram-spec : {M : Type 1} → statement M
 telegram-spec =

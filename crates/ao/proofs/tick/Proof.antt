@@ -1,3 +1,6 @@
+-- `ao::tick` meets its contract: each step is the definition's.
+-- Assumes nothing.
+use Rattle.ao.specs.Tick.{tickOf, tickedWith}
 use borrow.Author.Needs.{needs}
 use Rattle.ao.proofs.tick.Statement.{statement}
 use Rattle.ao.proofs.tick.Tie as tie
@@ -25,7 +28,8 @@ after-tick-requires-2 c κs = search needs
 
 -- src/lib.rt:405:1
 returns : tie.Need-returns
-returns c = ?
+unfolding tickOf tickedWith
+returns c = rw (c .before .after-tick2 .ensures, c .before .before .after-tick .ensures, c .before .before .before .given-in .ensures, c .before .before .before .before .actual-mode .ensures)
 
 pub tick-spec : {M : Type 1} → statement M
 tick-spec =

@@ -1,3 +1,6 @@
+-- `ao::warm_start` meets its contract: a start with OUT's value.
+-- Assumes nothing.
+use Rattle.ao.specs.State.{warmStarted}
 use borrow.Author.Needs.{needs}
 use Rattle.ao.proofs.warm_start.Statement.{statement}
 use Rattle.ao.proofs.warm_start.Tie as tie
@@ -11,7 +14,8 @@ start-requires c κs = search needs
 
 -- src/lib.rt:120:1
 returns : tie.Need-returns
-returns c = ?
+unfolding warmStarted
+returns c = c .start .ensures
 
 pub warm-start-spec : {M : Type 1} → statement M
 warm-start-spec = tie.close (tie.spec start-requires returns)
