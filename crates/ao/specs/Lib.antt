@@ -3,4 +3,5 @@ pub mod FailSafe
 pub mod State
 pub mod Telegram
 pub mod Tick
+pub mod Code
 pub mod Laws

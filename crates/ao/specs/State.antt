@@ -12,12 +12,12 @@ use Rattle.ao.specs.FailSafe.{InputOf, emptied}
 abbrev pub inputOf : Input → InputOf Float
 inputOf i = record { some = i .some; value = i .value; silence = i .silence; ifs = i .ifs }
 
-abbrev pub heldInput : InputOf Float → Input
-heldInput i = record { some = i .some; value = i .value; silence = i .silence; ifs = i .ifs }
+abbrev pub inputFrom : InputOf Float → Input
+inputFrom i = record { some = i .some; value = i .value; silence = i .silence; ifs = i .ifs }
 
 -- no usable telegram and no IFS came since start
 unfoldable pub noTelegrams : Input
-noTelegrams = heldInput (emptied (floatOf 0))
+noTelegrams = inputFrom (emptied (floatOf 0))
 
 -- the operator's pair, "fresh: 0, 0x4C"
 abbrev pub freshOperator : Pair

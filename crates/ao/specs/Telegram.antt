@@ -15,7 +15,7 @@ use Rattle.ao.specs.declared.Input.{Input}
 use Rattle.ao.specs.declared.State.{State}
 use Rattle.ao.specs.declared.Taken.{Taken}
 use Rattle.ao.specs.FailSafe.{usable, afterTelegram}
-use Rattle.ao.specs.State.{inputOf, heldInput}
+use Rattle.ao.specs.State.{inputOf, inputFrom}
 
 -- a telegram's pair is usable: "Finite" is asked of the value
 unfoldable pub usablePair : Pair → Bool
@@ -24,7 +24,7 @@ usablePair pair = usable (pair .status) (finite (floatOf (pair .bits)))
 -- an input after a telegram on it
 unfoldable pub inputAfter : Input → Pair → Input
 inputAfter input pair =
-    heldInput (afterTelegram (pair .status) (finite (floatOf (pair .bits))) (floatOf (pair .bits)) (inputOf input))
+    inputFrom (afterTelegram (pair .status) (finite (floatOf (pair .bits))) (floatOf (pair .bits)) (inputOf input))
 
 -- "setpoint input 0 (SP) or 1 (RCAS_IN)"; the other input and the rest unchanged
 unfoldable pub takenOn : State → ℕ → Pair → State

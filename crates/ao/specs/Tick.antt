@@ -13,10 +13,8 @@ use Rattle.ao.specs.declared.Input.{Input}
 use Rattle.ao.specs.declared.State.{State}
 use Rattle.ao.specs.declared.Order.{Order}
 use Rattle.ao.specs.declared.Ticked.{Ticked}
-use Rattle.ao.specs.declared.Given.{Given}
-use Rattle.ao.specs.declared.Case.{Case as CaseInCode}
-use Rattle.ao.specs.FailSafe.{InputOf, Case, following, fallback, held, nothingHeld, safety, OrderOf, position, safe, rest, GivenOf, positioned, leadsTo, caseOf, afterTick}
-use Rattle.ao.specs.State.{inputOf, heldInput}
+use Rattle.ao.specs.FailSafe.{Case, OrderOf, position, safe, rest, GivenOf, positioned, leadsTo, caseOf, afterTick}
+use Rattle.ao.specs.State.{inputOf, inputFrom}
 
 -- ---- scaling
 
@@ -46,13 +44,17 @@ givenByInput s old input = givenBy s old (caseOf (s .«fsafe_time») (s .«fsafe
 unfoldable pub actualMode : ℕ → Bool → ℕ
 actualMode target fault = cond (fault || eqb target 0x80) 0x80 target
 
--- O/S: "a block keeps its value as last given, with status 0x1F; AO's order is Rest"; Man: "the operator's pair";
--- "Auto uses SP, RCas RCAS_IN". A code that is no mode's, which no write stores, counts as Auto.
+-- "Auto uses SP, RCas RCAS_IN"; a code that is no mode's, which no write stores, counts as Auto
+unfoldable pub inputUsed : State → ℕ → Input
+inputUsed state mode = cond (eqb mode 0x02) (state .«rcas_in») (state .sp)
+
+-- O/S: "a block keeps its value as last given, with status 0x1F; AO's order is Rest"; "Man: the operator's pair.";
+-- otherwise the mode is Auto or RCas
 unfoldable pub givenIn : Settings → State → ℕ → GivenOf ℕ
 givenIn s state mode =
     cond (eqb mode 0x80) (record { value = state .out .bits; status = 0x1F; order = rest })
     (cond (eqb mode 0x10) (positioned (state .operator .bits) (state .operator .status))
-    (cond (eqb mode 0x02) (givenByInput s (state .out .bits) (state .«rcas_in»)) (givenByInput s (state .out .bits) (state .sp))))
+    (givenByInput s (state .out .bits) (inputUsed state mode)))
 
 -- "The order is Position with a float, Safe or Rest.": the answer for each case of the rules
 abbrev pub driveOrder : OrderOf ℕ → Order
@@ -60,32 +62,23 @@ driveOrder (position bits) = Order.Position (floatOf bits)
 driveOrder safe = Order.Safe
 driveOrder rest = Order.Rest
 
--- the code's cases as the rules have them, and what the rules give as the code has it
-abbrev pub ruleCase : CaseInCode → Case Float
-ruleCase (CaseInCode.Following w) = following w
-ruleCase (CaseInCode.Fallback w) = fallback w
-ruleCase (CaseInCode.Held w) = held w
-ruleCase CaseInCode.NothingHeld = nothingHeld
-ruleCase CaseInCode.Safety = safety
-
-abbrev pub givenOf : GivenOf ℕ → Given
-givenOf g = record { out = record { bits = g .value; status = g .status }; order = driveOrder (g .order) }
-
 abbrev pub inputAfterTick : Input → Input
-inputAfterTick input = heldInput (afterTick (inputOf input))
+inputAfterTick input = inputFrom (afterTick (inputOf input))
 
 -- the next state and the order, from what the tick gives in its actual mode; n counts "in any mode", on both inputs
 unfoldable pub tickedWith : State → ℕ → GivenOf ℕ → Ticked
 tickedWith state mode g =
-    record
-      { state =
-          record
-            { out = record { bits = g .value; status = g .status }
-            ; mode = mode
-            ; operator = state .operator
-            ; sp = inputAfterTick (state .sp)
-            ; «rcas_in» = inputAfterTick (state .«rcas_in») }
-      ; order = driveOrder (g .order) }
+    record {
+      state =
+          record {
+            out = record { bits = g .value; status = g .status };
+            mode = mode;
+            operator = state .operator;
+            sp = inputAfterTick (state .sp);
+            «rcas_in» = inputAfterTick (state .«rcas_in»);
+          };
+      order = driveOrder (g .order);
+    }
 
 unfoldable pub tickOf : Settings → State → Bool → Ticked
 tickOf s state fault = let mode = actualMode (s .target) fault in tickedWith state mode (givenIn s state mode)

@@ -4,10 +4,16 @@ ghost use mathlib.Core.Path.{_≡_};
 ghost use Rattle.ao.specs.FailSafe.{classOf, classNumber, silenceAfter, failSafeActs, failSafeCase, positioned, scaledOr};
 ghost use Rattle.ao.specs.State.{inputOf, freshState, started, warmStarted, operatedBy, noTelegrams};
 ghost use Rattle.ao.specs.Telegram.{inputAfter, takenOn, telegramOf};
-ghost use Rattle.ao.specs.Tick.{actualMode, scaledOut, outOf, givenBy, givenByInput, givenIn, givenOf, ruleCase, inputAfterTick, tickOf};
-use numbers::floats::{bits_of, float_of, is_finite};
+ghost use Rattle.ao.specs.Tick.{actualMode, scaledOut, outOf, givenBy, givenByInput, givenIn, inputAfterTick, tickOf};
+ghost use Rattle.ao.specs.Code.{ruleCase, givenOf};
+use numbers::floats::bits_of;
+use numbers::floats::float_of;
+use numbers::floats::is_finite;
 use scaling::Scale;
-use wire::{Answer, Pair, Received, Refusal};
+use wire::Answer;
+use wire::Pair;
+use wire::Received;
+use wire::Refusal;
 
 // The stored parameters that the tick goes by.
 #[repr(C)]
@@ -331,7 +337,12 @@ fn given_by_input(settings: Settings, old: u32, input: Input) -> Given
 {
     let acts = fail_safe_acts(input.some, input.silence, input.ifs, settings.fsafe_time);
     if acts {
-        let case = fail_safe_case(settings.fsafe_type, settings.fsafe_value, input.some, input.value);
+        let case = fail_safe_case(
+            settings.fsafe_type,
+            settings.fsafe_value,
+            input.some,
+            input.value,
+        );
         return given_by(settings, old, case);
     }
     given_by(settings, old, Case::Following(input.value))

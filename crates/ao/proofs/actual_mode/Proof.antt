@@ -3,15 +3,11 @@
 use Rattle.ao.specs.Tick.{actualMode}
 use Rattle.ao.proofs.actual_mode.Statement.{statement}
 use Rattle.ao.proofs.actual_mode.Tie as tie
-use Rattle.ao.proofs.actual_mode.Reads as reads
-use Rattle.ao.proofs.actual_mode.Lts as lts
 
--- src/lib.rt:347:9
 returns : tie.Need-returns
 unfolding actualMode
 returns c = rw (c .if1 .taken)
 
--- src/lib.rt:342:1
 returns-2 : tie.Need-returns-2
 unfolding actualMode
 returns-2 c = rw (c .if1 .left)

@@ -3,15 +3,10 @@
 use borrow.Author.Needs.{needs}
 use Rattle.ao.proofs.at_position.Statement.{statement}
 use Rattle.ao.proofs.at_position.Tie as tie
-use Rattle.ao.proofs.at_position.Reads as reads
-use Rattle.ao.proofs.at_position.Lts as lts
-use Rattle.numbers.proofs.floats.float_of.Reads as float-of-reads
 
--- src/lib.rt:290:9
 float-of-requires : tie.Need-float-of-requires
 float-of-requires c κs = search needs
 
--- src/lib.rt:287:1
 returns : tie.Need-returns
 returns c = rw (c .float-of .ensures)
 

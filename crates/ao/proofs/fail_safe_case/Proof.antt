@@ -3,25 +3,19 @@
 use Rattle.ao.specs.FailSafe.{failSafeCase}
 use Rattle.ao.proofs.fail_safe_case.Statement.{statement}
 use Rattle.ao.proofs.fail_safe_case.Tie as tie
-use Rattle.ao.proofs.fail_safe_case.Reads as reads
-use Rattle.ao.proofs.fail_safe_case.Lts as lts
 
--- src/lib.rt:257:9
 returns : tie.Need-returns
 unfolding failSafeCase
 returns c = rw (c .if1 .taken)
 
--- src/lib.rt:262:13
 returns-2 : tie.Need-returns-2
 unfolding failSafeCase
 returns-2 c = rw (c .before .before .if1 .left, c .before .if2 .taken, c .if3 .taken)
 
--- src/lib.rt:264:9
 returns-3 : tie.Need-returns-3
 unfolding failSafeCase
 returns-3 c = rw (c .before .before .if1 .left, c .before .if2 .taken, c .if3 .left)
 
--- src/lib.rt:252:1
 returns-4 : tie.Need-returns-4
 unfolding failSafeCase
 returns-4 c = rw (c .before .if1 .left, c .if2 .left)

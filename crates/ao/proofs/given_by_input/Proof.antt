@@ -5,34 +5,23 @@ use Rattle.ao.specs.Tick.{givenByInput}
 use borrow.Author.Needs.{needs}
 use Rattle.ao.proofs.given_by_input.Statement.{statement}
 use Rattle.ao.proofs.given_by_input.Tie as tie
-use Rattle.ao.proofs.given_by_input.Reads as reads
-use Rattle.ao.proofs.given_by_input.Lts as lts
-use Rattle.ao.proofs.fail_safe_acts.Reads as fail-safe-acts-reads
-use Rattle.ao.proofs.fail_safe_case.Reads as fail-safe-case-reads
-use Rattle.ao.proofs.given_by.Reads as given-by-reads
 
--- src/lib.rt:332:9
 fail-safe-acts-requires : tie.Need-fail-safe-acts-requires
 fail-safe-acts-requires c κs = search needs
 
--- src/lib.rt:334:13
 fail-safe-case-requires : tie.Need-fail-safe-case-requires
 fail-safe-case-requires c κs = search needs
 
--- src/lib.rt:335:9
 given-by-requires : tie.Need-given-by-requires
 given-by-requires c κs = search needs
 
--- src/lib.rt:335:9
 returns : tie.Need-returns
 unfolding givenByInput caseOf
 returns c = rw (c .given-by .ensures, c .before .fail-safe-case .ensures, ← c .before .before .before .fail-safe-acts .ensures, c .before .before .if1 .taken)
 
--- src/lib.rt:337:5
 given-by-requires-2 : tie.Need-given-by-requires-2
 given-by-requires-2 c κs = search needs
 
--- src/lib.rt:329:1
 returns-2 : tie.Need-returns-2
 unfolding givenByInput caseOf
 returns-2 c = rw (c .given-by2 .ensures, ← c .before .before .fail-safe-acts .ensures, c .before .if1 .left)

@@ -5,52 +5,37 @@ use Rattle.ao.specs.Telegram.{inputAfter}
 use borrow.Author.Needs.{needs}
 use Rattle.ao.proofs.heard.Statement.{statement}
 use Rattle.ao.proofs.heard.Tie as tie
-use Rattle.ao.proofs.heard.Reads as reads
-use Rattle.ao.proofs.heard.Lts as lts
-use Rattle.ao.proofs.class_of.Reads as class-of-reads
-use Rattle.numbers.proofs.floats.float_of.Reads as float-of-reads
-use Rattle.numbers.proofs.floats.is_finite.Reads as is-finite-reads
 
--- src/lib.rt:164:9
 float-of-requires : tie.Need-float-of-requires
 float-of-requires c κs = search needs
 
--- src/lib.rt:165:9
 is-finite-requires : tie.Need-is-finite-requires
 is-finite-requires c κs = search needs
 
--- src/lib.rt:166:9
 class-of-requires : tie.Need-class-of-requires
 class-of-requires c κs = search needs
 
--- src/lib.rt:169:16
 enum-told : tie.Need-enum-told
 enum-told c = search needs
 
--- src/lib.rt:170:17
 returns : tie.Need-returns
 unfolding inputAfter afterTelegram usable initiates
 returns c = rw (← c .before .before .before .before .before .float-of .ensures, ← c .before .before .before .before .is-finite .ensures, ← c .before .before .before .class-of .ensures, c .before .enum-told .given .1, c .if1 .taken)
 
--- src/lib.rt:179:36
 enum-told-2 : tie.Need-enum-told-2
 enum-told-2 c = search needs
 
--- src/lib.rt:185:27
 enum-told-3 : tie.Need-enum-told-3
 enum-told-3 c = search needs
 
--- src/lib.rt:161:1
 returns-2 : tie.Need-returns-2
 unfolding inputAfter afterTelegram usable initiates
 returns-2 c = rw (← c .before .before .before .before .before .float-of .ensures, ← c .before .before .before .before .is-finite .ensures, ← c .before .before .before .class-of .ensures, c .before .enum-told .given .1, c .if1 .left)
 
--- src/lib.rt:161:1
 returns-3 : tie.Need-returns-3
 unfolding inputAfter afterTelegram usable initiates
 returns-3 c = rw (← c .before .before .class-of .ensures, c .enum-told2 .given .1)
 
--- src/lib.rt:161:1
 returns-4 : tie.Need-returns-4
 unfolding inputAfter afterTelegram usable initiates
 returns-4 c = rw (← c .before .before .class-of .ensures, c .enum-told3 .given .1)

@@ -5,10 +5,7 @@ use Rattle.ao.specs.FailSafe.{emptied}
 use Rattle.ao.specs.State.{noTelegrams}
 use Rattle.ao.proofs.no_telegrams.Statement.{statement}
 use Rattle.ao.proofs.no_telegrams.Tie as tie
-use Rattle.ao.proofs.no_telegrams.Reads as reads
-use Rattle.ao.proofs.no_telegrams.Lts as lts
 
--- src/lib.rt:86:1
 returns : tie.Need-returns
 unfolding noTelegrams emptied
 returns c = refl

@@ -4,10 +4,7 @@ use mathlib.Core.Path.{refl}
 use Rattle.ao.specs.State.{operatedBy}
 use Rattle.ao.proofs.operated.Statement.{statement}
 use Rattle.ao.proofs.operated.Tie as tie
-use Rattle.ao.proofs.operated.Reads as reads
-use Rattle.ao.proofs.operated.Lts as lts
 
--- src/lib.rt:127:1
 returns : tie.Need-returns
 unfolding operatedBy
 returns c = refl

@@ -4,39 +4,26 @@ use Rattle.ao.specs.Tick.{outOf}
 use borrow.Author.Needs.{needs}
 use Rattle.ao.proofs.scaled_or.Statement.{statement}
 use Rattle.ao.proofs.scaled_or.Tie as tie
-use Rattle.ao.proofs.scaled_or.Reads as reads
-use Rattle.ao.proofs.scaled_or.Lts as lts
-use Rattle.ao.proofs.at_position.Reads as at-position-reads
-use Rattle.ao.proofs.scaled_out.Reads as scaled-out-reads
-use Rattle.numbers.proofs.floats.bits_of.Reads as bits-of-reads
-use Rattle.numbers.proofs.floats.is_finite.Reads as is-finite-reads
 
--- src/lib.rt:301:9
 scaled-out-requires : tie.Need-scaled-out-requires
 scaled-out-requires c κs = search needs
 
--- src/lib.rt:302:9
 is-finite-requires : tie.Need-is-finite-requires
 is-finite-requires c κs = search needs
 
--- src/lib.rt:304:13
 bits-of-requires : tie.Need-bits-of-requires
 bits-of-requires c κs = search needs
 
--- src/lib.rt:305:9
 at-position-requires : tie.Need-at-position-requires
 at-position-requires c κs = search needs
 
--- src/lib.rt:305:9
 returns : tie.Need-returns
 unfolding outOf
 returns c = rw (c .at-position .ensures, c .before .bits-of .ensures, ← c .before .before .before .before .scaled-out .ensures, ← c .before .before .before .is-finite .ensures, c .before .before .if1 .taken)
 
--- src/lib.rt:307:5
 at-position-requires-2 : tie.Need-at-position-requires-2
 at-position-requires-2 c κs = search needs
 
--- src/lib.rt:298:1
 returns-2 : tie.Need-returns-2
 unfolding outOf
 returns-2 c = rw (c .at-position2 .ensures, ← c .before .before .before .scaled-out .ensures, ← c .before .before .is-finite .ensures, c .before .if1 .left)

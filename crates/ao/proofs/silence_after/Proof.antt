@@ -5,24 +5,18 @@ use Rattle.ao.specs.FailSafe.{silenceAfter}
 use borrow.Author.Needs.{needs}
 use Rattle.ao.proofs.silence_after.Statement.{statement}
 use Rattle.ao.proofs.silence_after.Tie as tie
-use Rattle.ao.proofs.silence_after.Reads as reads
-use Rattle.ao.proofs.silence_after.Lts as lts
 
--- src/lib.rt:386:20
 add-result : tie.Need-add-result
 add-result c = search needs
 
--- src/lib.rt:386:13
 returns : tie.Need-returns
 unfolding silenceAfter
 returns c = rw (c .before .if1 .taken) (omega arith)
 
--- src/lib.rt:388:9
 returns-2 : tie.Need-returns-2
 unfolding silenceAfter
 returns-2 c = rw (c .before .if1 .taken) (omega arith)
 
--- src/lib.rt:381:1
 returns-3 : tie.Need-returns-3
 unfolding silenceAfter
 returns-3 c = rw (c .if1 .left)

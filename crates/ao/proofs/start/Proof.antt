@@ -4,19 +4,13 @@ use Rattle.ao.specs.State.{started}
 use borrow.Author.Needs.{needs}
 use Rattle.ao.proofs.start.Statement.{statement}
 use Rattle.ao.proofs.start.Tie as tie
-use Rattle.ao.proofs.start.Reads as reads
-use Rattle.ao.proofs.start.Lts as lts
-use Rattle.ao.proofs.no_telegrams.Reads as no-telegrams-reads
 
--- src/lib.rt:100:9
 no-telegrams-requires : tie.Need-no-telegrams-requires
 no-telegrams-requires c κs = search needs
 
--- src/lib.rt:101:9
 no-telegrams-requires-2 : tie.Need-no-telegrams-requires-2
 no-telegrams-requires-2 c κs = search needs
 
--- src/lib.rt:97:1
 returns : tie.Need-returns
 unfolding started
 returns c = rw (c .no-telegrams2 .ensures, c .before .no-telegrams .ensures)

@@ -4,24 +4,17 @@ use Rattle.ao.specs.Telegram.{takenOn}
 use borrow.Author.Needs.{needs}
 use Rattle.ao.proofs.taken_on.Statement.{statement}
 use Rattle.ao.proofs.taken_on.Tie as tie
-use Rattle.ao.proofs.taken_on.Reads as reads
-use Rattle.ao.proofs.taken_on.Lts as lts
-use Rattle.ao.proofs.heard.Reads as heard-reads
 
--- src/lib.rt:199:13
 heard-requires : tie.Need-heard-requires
 heard-requires c κs = search needs
 
--- src/lib.rt:200:9
 returns : tie.Need-returns
 unfolding takenOn
 returns c = rw (c .heard .ensures, c .before .if1 .taken)
 
--- src/lib.rt:208:9
 heard-requires-2 : tie.Need-heard-requires-2
 heard-requires-2 c κs = search needs
 
--- src/lib.rt:190:1
 returns-2 : tie.Need-returns-2
 unfolding takenOn
 returns-2 c = rw (c .heard2 .ensures, c .before .if1 .left)

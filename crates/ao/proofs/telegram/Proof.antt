@@ -4,38 +4,27 @@ use Rattle.ao.specs.Telegram.{telegramOf}
 use borrow.Author.Needs.{needs}
 use Rattle.ao.proofs.telegram.Statement.{statement}
 use Rattle.ao.proofs.telegram.Tie as tie
-use Rattle.ao.proofs.telegram.Reads as reads
-use Rattle.ao.proofs.telegram.Lts as lts
-use Rattle.ao.proofs.taken_on.Reads as taken-on-reads
-use Rattle.wire.proofs.pair_of.Reads as pair-of-reads
 
--- src/lib.rt:223:9
 returns : tie.Need-returns
 unfolding telegramOf
 returns c = rw (c .if1 .taken)
 
--- src/lib.rt:228:9
 pair-of-requires : tie.Need-pair-of-requires
 pair-of-requires c κs = search needs
 
--- src/lib.rt:230:25
 enum-known-received : tie.Need-enum-known-received
 enum-known-received c = search needs
 
--- src/lib.rt:231:17
 taken-on-requires : tie.Need-taken-on-requires
 taken-on-requires c κs = search needs
 
--- src/lib.rt:237:27
 enum-known-received-2 : tie.Need-enum-known-received-2
 enum-known-received-2 c = search needs
 
--- src/lib.rt:218:1
 returns-2 : tie.Need-returns-2
 unfolding telegramOf
 returns-2 c = rw (c .taken-on .ensures, c .before .before .before .before .before .if1 .left, ← c .before .before .before .before .pair-of .ensures, c .before .before .received .given .1)
 
--- src/lib.rt:218:1
 returns-3 : tie.Need-returns-3
 unfolding telegramOf
 returns-3 c = rw (c .before .before .before .before .if1 .left, ← c .before .before .before .pair-of .ensures, c .before .received2 .given .1)

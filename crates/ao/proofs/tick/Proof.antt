@@ -4,29 +4,19 @@ use Rattle.ao.specs.Tick.{tickOf, tickedWith}
 use borrow.Author.Needs.{needs}
 use Rattle.ao.proofs.tick.Statement.{statement}
 use Rattle.ao.proofs.tick.Tie as tie
-use Rattle.ao.proofs.tick.Reads as reads
-use Rattle.ao.proofs.tick.Lts as lts
-use Rattle.ao.proofs.actual_mode.Reads as actual-mode-reads
-use Rattle.ao.proofs.after_tick.Reads as after-tick-reads
-use Rattle.ao.proofs.given_in.Reads as given-in-reads
 
--- src/lib.rt:411:9
 actual-mode-requires : tie.Need-actual-mode-requires
 actual-mode-requires c κs = search needs
 
--- src/lib.rt:412:9
 given-in-requires : tie.Need-given-in-requires
 given-in-requires c κs = search needs
 
--- src/lib.rt:413:9
 after-tick-requires : tie.Need-after-tick-requires
 after-tick-requires c κs = search needs
 
--- src/lib.rt:414:9
 after-tick-requires-2 : tie.Need-after-tick-requires-2
 after-tick-requires-2 c κs = search needs
 
--- src/lib.rt:405:1
 returns : tie.Need-returns
 unfolding tickOf tickedWith
 returns c = rw (c .before .after-tick2 .ensures, c .before .before .after-tick .ensures, c .before .before .before .given-in .ensures, c .before .before .before .before .actual-mode .ensures)

@@ -4,15 +4,10 @@ use Rattle.ao.specs.State.{warmStarted}
 use borrow.Author.Needs.{needs}
 use Rattle.ao.proofs.warm_start.Statement.{statement}
 use Rattle.ao.proofs.warm_start.Tie as tie
-use Rattle.ao.proofs.warm_start.Reads as reads
-use Rattle.ao.proofs.warm_start.Lts as lts
-use Rattle.ao.proofs.start.Reads as start-reads
 
--- src/lib.rt:123:5
 start-requires : tie.Need-start-requires
 start-requires c κs = search needs
 
--- src/lib.rt:120:1
 returns : tie.Need-returns
 unfolding warmStarted
 returns c = c .start .ensures
