@@ -1,7 +1,6 @@
 // Paper 01's wire form: the status byte, a value as five bytes, the bus image and one block's part of it, and the
 // numbers of refused calls.
 pub mod status;
-
 ghost use mathlib.Core.Path.{_≡_};
 ghost use Rattle.wire.specs.Status.{qualityOf, subStatusOf, limitsOf};
 ghost use Rattle.wire.specs.Refusal.{refusalNumber, answerNumber};
