@@ -112,3 +112,9 @@ leadsTo scaled old (fallback w) = scaledOr old 0x48 (scaled w)
 leadsTo scaled old (held w) = scaledOr old 0x44 (scaled w)
 leadsTo scaled old nothingHeld = positioned old 0x4C
 leadsTo scaled old safety = record { value = old; status = 0x00; order = safe }
+
+-- what a tick gives by its actual mode. O/S: "a block keeps its value as last given, with status 0x1F; AO's order is Rest"; "Man: the operator's pair.";
+-- in another mode, Auto or RCas, what the case leads to
+unfoldable pub byMode : {O : Type 0} → ℕ → O → O → ℕ → GivenOf O → GivenOf O
+byMode mode old operator operatorStatus led =
+    cond (eqb mode 0x80) (record { value = old; status = 0x1F; order = rest }) (cond (eqb mode 0x10) (positioned operator operatorStatus) led)

@@ -1,15 +1,14 @@
 -- Laws of AO that callers cite: what a status byte says of a telegram, the count that stops, the decision, refused telegrams, and that OUT stays finite.
 -- Assumes nothing.
-use mathlib.Core.Path.{_≡_, refl, sym, ap, _∙_, subst}
-use mathlib.Core.Bool.{Bool, true, false, cond, not, _&&_, _||_, true≢false}
+use mathlib.Core.Path.{_≡_, refl, ap, _∙_}
+use mathlib.Core.Bool.{Bool, true, false, cond, not, _&&_, _||_}
 use mathlib.Core.List.{List}
 use mathlib.Core.Option.{Option, none, some}
 use Prim.Native.Nat.{ℕ, _+_, _≤_, min}
-use native.Mathlib.Numerals.{add-one}
 use native.Mathlib.Omega.{arith}
 use borrow.Author.Tests.{lt-ltb, le-ltb, ltb-true, ltb-false}
 use lib.Dec.{eqb, ltb}
-use lib.Ieee.{Float, binary32, mul, sub}
+use lib.Ieee.{Float, binary32, sub}
 use lib.Ieee.Fits.{add-fits}
 use lib.Ieee.Scale.{finite}
 use Rattle.numbers.specs.Floats.{floatOf, bitsOf}
@@ -26,7 +25,7 @@ use Rattle.ao.specs.declared.Settings.{Settings}
 use Rattle.ao.specs.declared.State.{State}
 use Rattle.ao.specs.declared.Input.{Input}
 use Rattle.ao.specs.declared.Class.the-variants.{Usable, InitiateFailSafe, Neither}
-use Rattle.ao.specs.FailSafe.{classOf, classNumber, usable, initiates, silenceAfter, failSafeActs, failSafeCase, caseOf, Case, following, fallback, held, nothingHeld, safety, rest, GivenOf, positioned, scaledOr, leadsTo}
+use Rattle.ao.specs.FailSafe.{classOf, classNumber, usable, initiates, InputOf, silenceAfter, failSafeActs, failSafeCase, caseOf, Case, following, fallback, held, nothingHeld, safety, rest, GivenOf, positioned, scaledOr, leadsTo, byMode}
 use Rattle.ao.specs.Telegram.{refusedWith, receivedOn, telegramOf}
 use Rattle.ao.specs.Tick.{closing, scaledOut, outOf, givenBy, givenByInput, actualMode, inputUsed, givenIn, tickedWith, tickOf}
 
@@ -78,7 +77,41 @@ pub stopped-counts : (n : ℕ) → silenceAfter true (min n 65536) ≡ min (n + 
 unfolding silenceAfter
 stopped-counts n = omega arith
 
--- ---- the decision
+-- ---- the decision, for any kind of value
+
+module _ {A : Type 0} (time kind : ℕ) (fsafeValue : A) (input : InputOf A) where
+  pub case-fail-safe : failSafeActs (input .some) (input .silence) (input .ifs) time ≡ true → caseOf time kind fsafeValue input ≡ failSafeCase kind fsafeValue (input .some) (input .value)
+  unfolding caseOf
+  case-fail-safe h = rw h
+
+  pub case-following : failSafeActs (input .some) (input .silence) (input .ifs) time ≡ false → caseOf time kind fsafeValue input ≡ following (input .value)
+  unfolding caseOf
+  case-following h = rw h
+
+-- Whatever holds of old OUT, of the operator's value and of all that scaling leads to holds of the value given.
+module _ {A O : Type 0} (P : O → Type 0) (scaled : A → Option O) (old : O) (kept : P old) (each : (w : A) (out : O) → scaled w ≡ some out → P out) where
+  scaled-holds : (status : ℕ) (o : Option O) → ((out : O) → o ≡ some out → P out) → P (scaledOr old status o .value)
+  scaled-holds status none h = kept
+  scaled-holds status (some out) h = h out refl
+
+  pub led-holds : (c : Case A) → P (leadsTo scaled old c .value)
+  unfolding leadsTo
+  led-holds (following w) = scaled-holds 0x80 (scaled w) (each w)
+  led-holds (fallback w) = scaled-holds 0x48 (scaled w) (each w)
+  led-holds (held w) = scaled-holds 0x44 (scaled w) (each w)
+  led-holds nothingHeld = kept
+  led-holds safety = kept
+
+pub given-holds : {O : Type 0} (P : O → Type 0) (mode : ℕ) (old operator : O) (operatorStatus : ℕ) (led : GivenOf O) → P old → P operator → P (led .value) → P (byMode mode old operator operatorStatus led .value)
+unfolding byMode
+given-holds P mode old operator operatorStatus led h o l = go (eqb mode 0x80) (eqb mode 0x10)
+  where
+    go : (a b : Bool) → P (cond a (record { value = old; status = 0x1F; order = rest }) (cond b (positioned operator operatorStatus) led) .value)
+    go true b = h
+    go false true = o
+    go false false = l
+
+-- ---- the decision in AO's tick
 
 -- whether fail-safe acts, and FSAFE_TYPE's case, by an input
 abbrev pub acts : Settings → Input → Bool
@@ -93,13 +126,13 @@ module _ (s : Settings) (x : State) (fault : Bool) (in-service : eqb (actualMode
   pub tick-fail-safe :
       acts s (inputUsed x (actualMode (s .target) fault)) ≡ true →
       tickOf s x fault ≡ tickedWith x (actualMode (s .target) fault) (givenBy s (x .out .bits) (fsafeCase s (inputUsed x (actualMode (s .target) fault))))
-  unfolding tickOf givenIn givenByInput caseOf
+  unfolding tickOf givenIn byMode givenByInput caseOf
   tick-fail-safe h = rw (in-service, not-Man, h)
 
   pub tick-following :
       acts s (inputUsed x (actualMode (s .target) fault)) ≡ false →
       tickOf s x fault ≡ tickedWith x (actualMode (s .target) fault) (givenBy s (x .out .bits) (following (inputUsed x (actualMode (s .target) fault) .value)))
-  unfolding tickOf givenIn givenByInput caseOf
+  unfolding tickOf givenIn byMode givenByInput caseOf
   tick-following h = rw (in-service, not-Man, h)
 
 -- ---- finite values
@@ -121,34 +154,20 @@ scaled-back : (s : Settings) (w : Float) → floatOf (bitsOf (scaledOut s w)) �
 unfolding scaledOut atFraction
 scaled-back s w = float-back (scaledOut s w) (add-fits binary32 _ _)
 
-FiniteBits : ℕ → Type 0
-FiniteBits bits = finite (floatOf bits) ≡ true
-
-scaled-finite : (s : Settings) (old status : ℕ) (w : Float) → FiniteBits old → FiniteBits (scaledOr old status (outOf s w) .value)
-unfolding outOf FiniteBits
-scaled-finite s old status w h = go (finite (scaledOut s w)) refl
+pub out-of-finite : (s : Settings) (w : Float) (bits : ℕ) → outOf s w ≡ some bits → finite (floatOf bits) ≡ true
+unfolding outOf
+out-of-finite s w bits = go (finite (scaledOut s w)) refl
   where
-    go : (b : Bool) → finite (scaledOut s w) ≡ b → FiniteBits (scaledOr old status (cond b (some (bitsOf (scaledOut s w))) none) .value)
-    go true e = ap finite (scaled-back s w) ∙ e
-    go false e = h
-
-given-finite : (s : Settings) (old : ℕ) (c : Case Float) → FiniteBits old → FiniteBits (givenBy s old c .value)
-unfolding givenBy leadsTo
-given-finite s old (following w) h = scaled-finite s old 0x80 w h
-given-finite s old (fallback w) h = scaled-finite s old 0x48 w h
-given-finite s old (held w) h = scaled-finite s old 0x44 w h
-given-finite s old nothingHeld h = h
-given-finite s old safety h = h
+    go : (b : Bool) → finite (scaledOut s w) ≡ b → cond b (some (bitsOf (scaledOut s w))) none ≡ some bits → finite (floatOf bits) ≡ true
+    go true e h = let z : bitsOf (scaledOut s w) ≡ bits = cc in rw z at (ap finite (scaled-back s w) ∙ e)
+    go false e h = let z : _≡_ {A = ℕ} 0 1 = cc in absurd (omega arith)
 
 -- OUT stays finite.
 pub out-finite : (s : Settings) (x : State) (fault : Bool) → finite (floatOf (x .out .bits)) ≡ true → finite (floatOf (x .operator .bits)) ≡ true → finite (floatOf (tickOf s x fault .state .out .bits)) ≡ true
-unfolding tickOf tickedWith givenIn givenByInput FiniteBits
-out-finite s x fault h o = go (eqb mode 0x80) (eqb mode 0x10)
+unfolding tickOf tickedWith givenIn givenByInput givenBy
+out-finite s x fault h o =
+    given-holds finiteBits (actualMode (s .target) fault) (x .out .bits) (x .operator .bits) (x .operator .status) _ h o
+    (led-holds finiteBits (outOf s) (x .out .bits) h (out-of-finite s) _)
   where
-    mode : ℕ
-    mode = actualMode (s .target) fault
-
-    go : (a b : Bool) → FiniteBits (cond a (record { value = x .out .bits; status = 0x1F; order = rest }) (cond b (positioned (x .operator .bits) (x .operator .status)) (givenByInput s (x .out .bits) (inputUsed x mode))) .value)
-    go true b = h
-    go false true = o
-    go false false = given-finite s (x .out .bits) _ h
+    finiteBits : ℕ → Type 0
+    finiteBits bits = finite (floatOf bits) ≡ true

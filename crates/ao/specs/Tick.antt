@@ -7,13 +7,12 @@ use lib.Ieee.{Float, binary32, sub}
 use lib.Ieee.Scale.{finite}
 use Rattle.numbers.specs.Floats.{floatOf, bitsOf}
 use Rattle.scaling.specs.Scaling.{fractionOf, atFraction}
-use Rattle.wire.specs.declared.Pair.{Pair}
 use Rattle.ao.specs.declared.Settings.{Settings}
 use Rattle.ao.specs.declared.Input.{Input}
 use Rattle.ao.specs.declared.State.{State}
 use Rattle.ao.specs.declared.Order.{Order}
 use Rattle.ao.specs.declared.Ticked.{Ticked}
-use Rattle.ao.specs.FailSafe.{Case, OrderOf, position, safe, rest, GivenOf, positioned, leadsTo, caseOf, afterTick}
+use Rattle.ao.specs.FailSafe.{Case, OrderOf, position, safe, rest, GivenOf, leadsTo, byMode, caseOf, afterTick}
 use Rattle.ao.specs.State.{inputOf, inputFrom}
 
 -- ---- scaling
@@ -48,13 +47,10 @@ actualMode target fault = cond (fault || eqb target 0x80) 0x80 target
 unfoldable pub inputUsed : State → ℕ → Input
 inputUsed state mode = cond (eqb mode 0x02) (state .«rcas_in») (state .sp)
 
--- O/S: "a block keeps its value as last given, with status 0x1F; AO's order is Rest"; "Man: the operator's pair.";
--- otherwise the mode is Auto or RCas
+-- what a tick gives in its actual mode
 unfoldable pub givenIn : Settings → State → ℕ → GivenOf ℕ
 givenIn s state mode =
-    cond (eqb mode 0x80) (record { value = state .out .bits; status = 0x1F; order = rest })
-    (cond (eqb mode 0x10) (positioned (state .operator .bits) (state .operator .status))
-    (givenByInput s (state .out .bits) (inputUsed state mode)))
+    byMode mode (state .out .bits) (state .operator .bits) (state .operator .status) (givenByInput s (state .out .bits) (inputUsed state mode))
 
 -- "The order is Position with a float, Safe or Rest.": the answer for each case of the rules
 abbrev pub driveOrder : OrderOf ℕ → Order
