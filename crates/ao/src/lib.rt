@@ -133,11 +133,11 @@ pub fn warm_start(state: State) -> State
 pub fn operated(state: State, pair: Pair) -> State
     ensures { λ r. ⌜ r ≡ operatedBy state pair ⌝ }
 {
-    let out = state.out;
+    let given = state.out;
     let sp = state.sp;
     let rcas_in = state.rcas_in;
     State {
-        out,
+        out: given,
         mode: state.mode,
         operator: pair,
         sp,
