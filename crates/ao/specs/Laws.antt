@@ -21,13 +21,14 @@ use Rattle.wire.specs.declared.Refusal.the-variants.{NoSuchInput}
 use Rattle.wire.specs.declared.Answer.{Answer}
 use Rattle.wire.specs.declared.Received.{Received}
 use Rattle.wire.specs.Bytes.{pairOf}
+use Rattle.blocks.specs.Common.{outOfService, man, actualMode}
 use Rattle.ao.specs.declared.Settings.{Settings}
 use Rattle.ao.specs.declared.State.{State}
 use Rattle.ao.specs.declared.Input.{Input}
 use Rattle.ao.specs.declared.Class.the-variants.{Usable, InitiateFailSafe, Neither}
 use Rattle.ao.specs.FailSafe.{classOf, classNumber, usable, initiates, InputOf, silenceAfter, failSafeActs, failSafeCase, caseOf, Case, following, fallback, held, nothingHeld, safety, rest, GivenOf, positioned, scaledOr, leadsTo, byMode}
 use Rattle.ao.specs.Telegram.{refusedWith, receivedOn, telegramOf}
-use Rattle.ao.specs.Tick.{closing, scaledOut, outOf, givenBy, givenByInput, actualMode, inputUsed, givenIn, tickedWith, tickOf}
+use Rattle.ao.specs.Tick.{closing, scaledOut, outOf, givenBy, givenByInput, inputUsed, givenIn, tickedWith, tickOf}
 
 -- ---- telegrams
 
@@ -122,16 +123,16 @@ fsafeCase s input = failSafeCase (s .«fsafe_type») (s .«fsafe_value») (input
 
 -- In Auto and RCas, the actual mode being neither O/S nor Man, value, status and order are those of FSAFE_TYPE's case where fail-safe acts, and else
 -- those that the last usable telegram leads to.
-module _ (s : Settings) (x : State) (fault : Bool) (in-service : eqb (actualMode (s .target) fault) 0x80 ≡ false) (not-Man : eqb (actualMode (s .target) fault) 0x10 ≡ false) where
+module _ (s : Settings) (x : State) (fault : Bool) (in-service : eqb (actualMode fault (s .target)) outOfService ≡ false) (not-Man : eqb (actualMode fault (s .target)) man ≡ false) where
   pub tick-fail-safe :
-      acts s (inputUsed x (actualMode (s .target) fault)) ≡ true →
-      tickOf s x fault ≡ tickedWith x (actualMode (s .target) fault) (givenBy s (x .out .bits) (fsafeCase s (inputUsed x (actualMode (s .target) fault))))
+      acts s (inputUsed x (actualMode fault (s .target))) ≡ true →
+      tickOf s x fault ≡ tickedWith x (actualMode fault (s .target)) (givenBy s (x .out .bits) (fsafeCase s (inputUsed x (actualMode fault (s .target)))))
   unfolding tickOf givenIn byMode givenByInput caseOf
   tick-fail-safe h = rw (in-service, not-Man, h)
 
   pub tick-following :
-      acts s (inputUsed x (actualMode (s .target) fault)) ≡ false →
-      tickOf s x fault ≡ tickedWith x (actualMode (s .target) fault) (givenBy s (x .out .bits) (following (inputUsed x (actualMode (s .target) fault) .value)))
+      acts s (inputUsed x (actualMode fault (s .target))) ≡ false →
+      tickOf s x fault ≡ tickedWith x (actualMode fault (s .target)) (givenBy s (x .out .bits) (following (inputUsed x (actualMode fault (s .target)) .value)))
   unfolding tickOf givenIn byMode givenByInput caseOf
   tick-following h = rw (in-service, not-Man, h)
 
@@ -166,7 +167,7 @@ out-of-finite s w bits = go (finite (scaledOut s w)) refl
 pub out-finite : (s : Settings) (x : State) (fault : Bool) → finite (floatOf (x .out .bits)) ≡ true → finite (floatOf (x .operator .bits)) ≡ true → finite (floatOf (tickOf s x fault .state .out .bits)) ≡ true
 unfolding tickOf tickedWith givenIn givenByInput givenBy
 out-finite s x fault h o =
-    given-holds finiteBits (actualMode (s .target) fault) (x .out .bits) (x .operator .bits) (x .operator .status) _ h o
+    given-holds finiteBits (actualMode fault (s .target)) (x .out .bits) (x .operator .bits) (x .operator .status) _ h o
     (led-holds finiteBits (outOf s) (x .out .bits) h (out-of-finite s) _)
   where
     finiteBits : ℕ → Type 0

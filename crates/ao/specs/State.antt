@@ -4,6 +4,7 @@ use mathlib.Core.Bool.{Bool}
 use lib.Ieee.{Float}
 use Rattle.numbers.specs.Floats.{floatOf}
 use Rattle.wire.specs.declared.Pair.{Pair}
+use Rattle.blocks.specs.Common.{outOfService, freshOperator}
 use Rattle.ao.specs.declared.Input.{Input}
 use Rattle.ao.specs.declared.State.{State}
 use Rattle.ao.specs.FailSafe.{InputOf, emptied}
@@ -19,14 +20,10 @@ inputFrom i = record { some = i .some; value = i .value; silence = i .silence; i
 unfoldable pub noTelegrams : Input
 noTelegrams = inputFrom (emptied (floatOf 0))
 
--- the operator's pair, "fresh: 0, 0x4C"
-abbrev pub freshOperator : Pair
-freshOperator = record { bits = 0; status = 0x4C }
-
 -- "Fresh and after a warm start: actual O/S, status 0x1F."; "forgets .. operator's pairs .. and telegrams"
 unfoldable pub started : ℕ → State
 started bits =
-    record { out = record { bits = bits; status = 0x1F }; mode = 0x80; operator = freshOperator; sp = noTelegrams; «rcas_in» = noTelegrams }
+    record { out = record { bits = bits; status = 0x1F }; mode = outOfService; operator = freshOperator; sp = noTelegrams; «rcas_in» = noTelegrams }
 
 -- "Fresh output values are 0."
 unfoldable pub freshState : State

@@ -1,12 +1,13 @@
 -- AO's tick, from paper 01, "AO tick" and "Mode". Assumes nothing.
 use Prim.Native.Nat.{ℕ}
-use mathlib.Core.Bool.{Bool, cond, _||_}
+use mathlib.Core.Bool.{Bool, cond}
 use mathlib.Core.Option.{Option, none, some}
 use lib.Dec.{eqb}
 use lib.Ieee.{Float, binary32, sub}
 use lib.Ieee.Scale.{finite}
 use Rattle.numbers.specs.Floats.{floatOf, bitsOf}
 use Rattle.scaling.specs.Scaling.{fractionOf, atFraction}
+use Rattle.blocks.specs.Common.{rcas, actualMode}
 use Rattle.ao.specs.declared.Settings.{Settings}
 use Rattle.ao.specs.declared.Input.{Input}
 use Rattle.ao.specs.declared.State.{State}
@@ -39,13 +40,9 @@ givenBy s old c = leadsTo (outOf s) old c
 unfoldable pub givenByInput : Settings → ℕ → Input → GivenOf ℕ
 givenByInput s old input = givenBy s old (caseOf (s .«fsafe_time») (s .«fsafe_type») (s .«fsafe_value») (inputOf input))
 
--- "At each tick the actual mode is O/S if the fault flag is set or the target is O/S, else the target"
-unfoldable pub actualMode : ℕ → Bool → ℕ
-actualMode target fault = cond (fault || eqb target 0x80) 0x80 target
-
 -- "Auto uses SP, RCas RCAS_IN"; a code that is no mode's, which no write stores, counts as Auto
 unfoldable pub inputUsed : State → ℕ → Input
-inputUsed state mode = cond (eqb mode 0x02) (state .«rcas_in») (state .sp)
+inputUsed state mode = cond (eqb mode rcas) (state .«rcas_in») (state .sp)
 
 -- what a tick gives in its actual mode
 unfoldable pub givenIn : Settings → State → ℕ → GivenOf ℕ
@@ -77,4 +74,4 @@ tickedWith state mode g =
     }
 
 unfoldable pub tickOf : Settings → State → Bool → Ticked
-tickOf s state fault = let mode = actualMode (s .target) fault in tickedWith state mode (givenIn s state mode)
+tickOf s state fault = let mode = actualMode fault (s .target) in tickedWith state mode (givenIn s state mode)

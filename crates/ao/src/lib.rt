@@ -4,7 +4,7 @@ ghost use mathlib.Core.Path.{_≡_};
 ghost use Rattle.ao.specs.FailSafe.{classOf, classNumber, silenceAfter, failSafeActs, failSafeCase, positioned, scaledOr};
 ghost use Rattle.ao.specs.State.{inputOf, freshState, started, warmStarted, operatedBy, noTelegrams};
 ghost use Rattle.ao.specs.Telegram.{inputAfter, takenOn, telegramOf};
-ghost use Rattle.ao.specs.Tick.{actualMode, scaledOut, outOf, givenBy, givenByInput, givenIn, inputAfterTick, tickOf};
+ghost use Rattle.ao.specs.Tick.{scaledOut, outOf, givenBy, givenByInput, givenIn, inputAfterTick, tickOf};
 ghost use Rattle.ao.specs.Code.{ruleCase, givenOf};
 use numbers::floats::bits_of;
 use numbers::floats::float_of;
@@ -18,13 +18,13 @@ use wire::Refusal;
 // The stored parameters that the tick goes by.
 #[repr(C)]
 pub struct Settings {
-    pub target: u8,
+    pub target: u32,
     pub pv_scale: Scale,
     pub out_scale: Scale,
     pub fsafe_time: u32,
-    pub fsafe_type: u8,
+    pub fsafe_type: u32,
     pub fsafe_value: f32,
-    pub increase_close: u8,
+    pub increase_close: u32,
 }
 
 // A setpoint input: whether a usable telegram came since start, the value of the last one (0 while there is none), the
@@ -41,7 +41,7 @@ pub struct Input {
 #[repr(C)]
 pub struct State {
     pub out: Pair,
-    pub mode: u8,
+    pub mode: u32,
     pub operator: Pair,
     pub sp: Input,
     pub rcas_in: Input,
@@ -107,7 +107,7 @@ fn start(bits: u32) -> State
     let rcas_in = no_telegrams();
     State {
         out: Pair { bits, status: 0x1f },
-        mode: 0x80,
+        mode: blocks::OUT_OF_SERVICE,
         operator: Pair {
             bits: 0,
             status: 0x4c,
@@ -255,7 +255,7 @@ fn fail_safe_acts(some: bool, n: u32, ifs: bool, time: u32) -> bool
     !some | (n > time) | ifs
 }
 
-fn fail_safe_case(kind: u8, fsafe_value: f32, some: bool, last: f32) -> Case
+fn fail_safe_case(kind: u32, fsafe_value: f32, some: bool, last: f32) -> Case
     ensures { λ r. ⌜ ruleCase r ≡ failSafeCase kind «fsafe_value» some last ⌝ }
 {
     let zero = kind == 0;
@@ -350,24 +350,14 @@ fn given_by_input(settings: Settings, old: u32, input: Input) -> Given
 
 // ---- the tick
 
-fn actual_mode(target: u8, fault: bool) -> u8
-    ensures { λ r. ⌜ r ≡ actualMode target fault ⌝ }
-{
-    let out_of_service = fault | (target == 0x80);
-    if out_of_service {
-        return 0x80;
-    }
-    target
-}
-
-fn given_in(settings: Settings, state: State, mode: u8) -> Given
+fn given_in(settings: Settings, state: State, mode: u32) -> Given
     ensures { λ r. ⌜ r ≡ givenOf (givenIn settings state mode) ⌝ }
 {
     let old = state.out.bits;
     let operator = state.operator;
     let sp = state.sp;
     let rcas_in = state.rcas_in;
-    let out_of_service = mode == 0x80;
+    let out_of_service = mode == blocks::OUT_OF_SERVICE;
     if out_of_service {
         return Given {
             out: Pair {
@@ -377,11 +367,11 @@ fn given_in(settings: Settings, state: State, mode: u8) -> Given
             order: Order::Rest,
         };
     }
-    let man = mode == 0x10;
+    let man = mode == blocks::MAN;
     if man {
         return at_position(operator.bits, operator.status);
     }
-    let rcas = mode == 0x02;
+    let rcas = mode == blocks::RCAS;
     if rcas {
         return given_by_input(settings, old, rcas_in);
     }
@@ -419,7 +409,7 @@ pub fn tick(settings: Settings, state: State, fault: bool) -> Ticked
     let operator = state.operator;
     let sp = state.sp;
     let rcas_in = state.rcas_in;
-    let mode = actual_mode(settings.target, fault);
+    let mode = blocks::actual_mode(fault, settings.target);
     let given = given_in(settings, state, mode);
     let sp = after_tick(sp);
     let rcas_in = after_tick(rcas_in);
