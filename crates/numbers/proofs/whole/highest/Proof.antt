@@ -1,0 +1,129 @@
+-- `whole::highest` is right: the leading zeros give the number of bits past the 24 highest; what is left of m after the shift is a float exactly, and so is each product by a power of two.
+use mathlib.Core.Path.{_≡_, sym, ap, _∙_}
+use mathlib.Core.Bool.{false}
+use Prim.Native.Nat.{ℕ, zero, suc, _+_, _-_, _*_, _/_, _^_, _≤_, _<_}
+use native.Mathlib.Nat.{le-refl, le-trans, le-of-eq, le-of-lt, lt-of-lt-of-le, zero-lt-suc, mul-assoc, mul-le-mul-left, pow-succ', le-add-right, le-add-left, mul-pos, le-div-iff-mul-le, one-mul}
+use native.Mathlib.Omega.{arith}
+use borrow.Author.Needs.{needs}
+use lib.Dec.{le→leb}
+use lib.Pow.{pow-add, pow-pos, pow-mono}
+use lib.Count.{leadingZeros, leading-unique}
+use lib.IntN.{pos}
+use lib.Ieee.{Float, binary32, size, mul, ofInt, inFloat}
+use lib.Ieee.Digits.{size-lt, size-le, size-reaches}
+use lib.Ieee.Fits.{kept-lt}
+use lib.Ieee.Back.{round-whole}
+use lib.Ieee.Exact.{HasValue}
+use lib.Ieee.Positive.{mul-at, positive-of-value}
+use Rattle.numbers.specs.Whole.{highestBits, highest24}
+use Rattle.numbers.specs.WholeLaws.{highest-small, scaled-value}
+use Rattle.numbers.proofs.whole.highest.Statement.{statement}
+use Rattle.numbers.proofs.whole.highest.Tie as tie
+
+-- ---- leading zeros and size make the width
+double : (z m : ℕ) → ((j : ℕ) → j < z → 2 ^ j ≤ m) → 2 ^ z ≤ 2 * m + 1
+double zero m h = le-add-left 1 (2 * m)
+double (suc j) m h = le-trans (le-of-eq (pow-succ' 2 j)) (le-trans (mul-le-mul-left 2 (h j (le-refl (suc j)))) (le-add-right (2 * m) 1))
+
+zeros-are : (m : ℕ) → m < 2 ^ 64 → leadingZeros 64 m ≡ 64 - size m
+zeros-are m h =
+    let z : size m ≤ 64 = size-le m 64 h in
+    sym (leading-unique 64 m (64 - size m) (size m) (omega arith) (size-lt m) (double (size m) m (size-reaches m)))
+
+cleared : (m : ℕ) → m < 2 ^ 64 → 40 - leadingZeros 64 m ≡ size m - 24
+cleared m h = let z : size m ≤ 64 = size-le m 64 h in let e = zeros-are m h in omega arith
+
+-- ---- the float of q times a power of two
+value : (q k : ℕ) → q < 2 ^ 24 → k ≤ 40 → HasValue (ofInt binary32 (pos (q * 2 ^ k))) false (q * 2 ^ k) 1
+unfolding ofInt
+value q k h l = scaled-value false q k h (omega arith)
+
+whole-value : (n : ℕ) → n ≤ 2 ^ 24 → HasValue (ofInt binary32 (pos n)) false n 1
+unfolding ofInt
+whole-value n h = round-whole binary32 false n h
+
+product : (a i : ℕ) → 0 < a → i ≤ 24 → HasValue (ofInt binary32 (pos a)) false a 1 → mul binary32 (ofInt binary32 (pos a)) (ofInt binary32 (pos (2 ^ i))) ≡ ofInt binary32 (pos (a * 2 ^ i))
+unfolding ofInt
+product a i A l v =
+    let x = ofInt binary32 (pos a) in
+    let y = ofInt binary32 (pos (2 ^ i)) in
+    let w = whole-value (2 ^ i) (pow-mono l) in
+    mul-at binary32 x y a 1 (2 ^ i) 1 (positive-of-value x a 1 v A) (positive-of-value y (2 ^ i) 1 w (pow-pos i)) (zero-lt-suc 0) (zero-lt-suc 0) v w
+
+products : (q k : ℕ) → 0 < q → q < 2 ^ 24 → k ≤ 40
+    → mul binary32 (mul binary32 (ofInt binary32 (pos q)) (ofInt binary32 (pos (2 ^ (k / 2))))) (ofInt binary32 (pos (2 ^ (k - k / 2)))) ≡ ofInt binary32 (pos (q * 2 ^ k))
+products q k Q h l =
+    let i = k / 2 in
+    let a : i ≤ 24 = omega arith in
+    let b : k - i ≤ 24 = omega arith in
+    let i40 : i ≤ 40 = omega arith in
+    ap (λ (x : Float). mul binary32 x (ofInt binary32 (pos (2 ^ (k - i))))) (product q i Q a (whole-value q (le-of-lt h)))
+    ∙ product (q * 2 ^ i) (k - i) (mul-pos Q (pow-pos i)) b (value q i h i40)
+    ∙ ap (λ (x : ℕ). ofInt binary32 (pos x)) (mul-assoc q (2 ^ i) (2 ^ (k - i)) ∙ ap (λ (x : ℕ). q * x) (sym (pow-add 2 i (k - i)) ∙ ap (λ (x : ℕ). 2 ^ x) (halves k)))
+  where
+    halves : (k : ℕ) → k / 2 + (k - k / 2) ≡ k
+    halves k = omega arith
+
+-- ---- the two ways
+small : (m : ℕ) → m < 2 ^ 64 → 40 ≤ leadingZeros 64 m → m < 2 ^ 24
+small m h l = let e = zeros-are m h in let z : size m ≤ 24 = omega arith in lt-of-lt-of-le (size-lt m) (pow-mono z)
+
+shifted : (m : ℕ) → m < 2 ^ 64 → leadingZeros 64 m < 40 → 0 < m / 2 ^ (size m - 24)
+shifted m h l =
+    let e = zeros-are m h in
+    let k = size m - 24 in
+    let z : k < size m = omega arith in
+    le-div-iff-mul-le (pow-pos k) .1 (le-trans (le-of-eq (one-mul (2 ^ k))) (size-reaches m k z))
+
+few : (m : ℕ) → m < 2 ^ 64 → size m - 24 ≤ 40
+few m h = let z : size m ≤ 64 = size-le m 64 h in omega arith
+
+whole : (m : ℕ) → m < 2 ^ 64 → leadingZeros 64 m < 40
+    → mul binary32 (mul binary32 (ofInt binary32 (pos (m / 2 ^ (size m - 24)))) (ofInt binary32 (pos (2 ^ ((size m - 24) / 2))))) (ofInt binary32 (pos (2 ^ (size m - 24 - (size m - 24) / 2))))
+    ≡ ofInt binary32 (pos (highest24 m))
+unfolding highestBits
+whole m h l = products (m / 2 ^ (size m - 24)) (size m - 24) (shifted m h l) (kept-lt 24 m) (few m h)
+
+-- ---- the needs
+cast-zeros : tie.Need-cast-zeros
+cast-zeros c = let e = zeros-are (c .args .m) (c .fits .m .fits) in omega arith
+
+int-to-float-result : tie.Need-int-to-float-result
+unfolding inFloat
+int-to-float-result c = let s = c .before .before in le→leb (s .args .m) (2 ^ 24) (le-of-lt (small (s .args .m) (s .fits .m .fits) (c .before .if1 .taken)))
+
+returns : tie.Need-returns
+returns c = let s = c .before .before in ap (λ (x : ℕ). ofInt binary32 (pos x)) (sym (highest-small 24 (s .args .m) (small (s .args .m) (s .fits .m .fits) (c .before .if1 .taken))))
+
+sub-k : tie.Need-sub-k
+sub-k c = search needs
+
+shr-top : tie.Need-shr-top
+shr-top c = search needs
+
+int-to-float-top : tie.Need-int-to-float-top
+unfolding inFloat
+int-to-float-top c =
+    let s = c .before .before in
+    let m = s .args .m in
+    le→leb (m / 2 ^ (40 - leadingZeros 64 m)) (2 ^ 24) (rw (cleared m (s .fits .m .fits)) (le-of-lt (kept-lt 24 m)))
+
+power-requires : tie.Need-power-requires
+power-requires c κs = search needs
+
+sub-power : tie.Need-sub-power
+sub-power c = search needs
+
+power-requires-2 : tie.Need-power-requires-2
+power-requires-2 c κs = search needs
+
+returns-2 : tie.Need-returns-2
+returns-2 c =
+    let s = c .before .before .before .before in
+    let m = s .args .m in
+    rw (c .power2 .ensures, c .before .power .ensures, cleared m (s .fits .m .fits)) (whole m (s .fits .m .fits) (c .before .before .before .if1 .left))
+
+pub highest-spec : {M : Type 1} → statement M
+highest-spec =
+    tie.close
+    (tie.spec cast-zeros int-to-float-result returns sub-k shr-top int-to-float-top power-requires sub-power power-requires-2 returns-2)

@@ -1,0 +1,35 @@
+-- `whole::limited_sum` is right: a limit within an i64 does not see that the sum was brought to an i64's end.
+use mathlib.Core.Path.{_∙_}
+use Prim.Native.Nat.{_^_, _<_}
+use borrow.Author.Needs.{needs}
+use lib.Dec.{lit<}
+use lib.IntN.{ℤ, pos, negsuc, _+ℤ_}
+use lib.Signed.{mag}
+use mir.Syntax.{w64}
+use mir.ValLaws.{toZ-ofZ}
+use Rattle.numbers.specs.Whole.{bound}
+use Rattle.numbers.specs.WholeLaws.{limit-saturated}
+use Rattle.numbers.proofs.whole.limited_sum.Statement.{statement}
+use Rattle.numbers.proofs.whole.limited_sum.Tie as tie
+
+bound-small : (n : ℤ) → mag n < 2 ^ 63 → bound n < 2 ^ 63
+bound-small (pos n) h = h
+bound-small (negsuc n) h = lit< tt
+
+saturated-sum-requires : tie.Need-saturated-sum-requires
+saturated-sum-requires c κs = search needs
+
+limited-requires : tie.Need-limited-requires
+limited-requires c κs = search needs
+
+returns : tie.Need-returns
+returns c =
+    let s = c .before .before in
+    let q = c .before .saturated-sum in
+    toZ-ofZ w64 (c .limited .result) (record { sfits = c .limited .ok })
+    ∙ c .limited .ensures
+    ∙ rw (toZ-ofZ w64 (s .args .n) (s .fits .n), toZ-ofZ w64 (q .result) (record { sfits = q .ok }), q .ensures, toZ-ofZ w64 (s .args .a) (s .fits .a), toZ-ofZ w64 (s .args .b) (s .fits .b))
+    (limit-saturated (bound (s .args .n)) (s .args .a +ℤ s .args .b) (bound-small (s .args .n) (s .fits .n .sfits)))
+
+pub limited-sum-spec : {M : Type 1} → statement M
+limited-sum-spec = tie.close (tie.spec saturated-sum-requires limited-requires returns)

@@ -1,0 +1,4 @@
+pub mod Total
+pub mod Tick
+pub mod State
+pub mod Laws
