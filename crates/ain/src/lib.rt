@@ -12,11 +12,11 @@ use wire::Pair;
 // The stored parameters.
 #[repr(C)]
 pub struct Settings {
-    pub target: u8,
+    pub target: u32,
     pub pv_scale: Scale,
     pub out_scale: Scale,
     pub pv_ftime: f32,
-    pub fsafe_type: u8,
+    pub fsafe_type: u32,
     pub fsafe_value: f32,
     pub alarm_hys: f32,
     pub hi_hi_lim: f32,
@@ -40,7 +40,7 @@ pub struct State {
     // OUT as last given.
     pub out: Pair,
     // The actual mode's code.
-    pub mode: u8,
+    pub mode: u32,
     // The filter value.
     pub filter: Kept,
     // The last usable Auto value.
@@ -67,7 +67,7 @@ fn filter(time: f32, old: Kept, scaled: f32) -> f32
 }
 
 // OUT of an Auto tick that is not usable, for a finite or infinite scaled value.
-fn fail_safe(kind: u8, value: f32, last: Kept, scaled: f32, old: Pair, bad: u8) -> Pair
+fn fail_safe(kind: u32, value: f32, last: Kept, scaled: f32, old: Pair, bad: u8) -> Pair
     ensures { λ r. ⌜ r ≡ failSafeOut kind value last scaled old bad ⌝ }
 {
     let by_value = kind == 0;
@@ -158,7 +158,7 @@ fn no_alarms() -> Alarms
     }
 }
 
-fn usable_tick(s: Settings, st: State, mode: u8, pv: f32, status: u8) -> State
+fn usable_tick(s: Settings, st: State, mode: u32, pv: f32, status: u8) -> State
     ensures { λ r. ⌜ r ≡ usableTick s st mode pv status ⌝ }
 {
     let bits = numbers::floats::bits_of(pv);
@@ -180,7 +180,7 @@ fn usable_tick(s: Settings, st: State, mode: u8, pv: f32, status: u8) -> State
     }
 }
 
-fn unusable_tick(s: Settings, st: State, mode: u8, scaled: f32, bad: u8) -> State
+fn unusable_tick(s: Settings, st: State, mode: u32, scaled: f32, bad: u8) -> State
     ensures { λ r. ⌜ r ≡ unusableTick s st mode scaled bad ⌝ }
 {
     let given = fail_safe(s.fsafe_type, s.fsafe_value, st.last, scaled, st.out, bad);
@@ -199,7 +199,7 @@ fn unusable_tick(s: Settings, st: State, mode: u8, scaled: f32, bad: u8) -> Stat
     }
 }
 
-fn auto_tick(s: Settings, st: State, mode: u8, bits: u32, status: u8) -> State
+fn auto_tick(s: Settings, st: State, mode: u32, bits: u32, status: u8) -> State
     ensures { λ r. ⌜ r ≡ autoTick s st mode bits status ⌝ }
 {
     let x = numbers::floats::float_of(bits);
