@@ -1,0 +1,96 @@
+-- Stored words are allowed words of 32 bits: the defaults are, and an accepted write's are. Assumes nothing.
+use Prim.Native.Nat.{ℕ, _^_}
+use mathlib.Core.Path.{_≡_, refl, sym, ap, _∙_, subst}
+use mathlib.Core.Bool.{Bool, true, false, not, _&&_, _||_, cond, true≢false}
+use mathlib.Core.List.{List, [], _∷_}
+use mathlib.Core.Option.{Option, none, some}
+use lib.Dec.{T, eqb, ltb}
+use lib.Ieee.{le, ofBits, ofInt, ne}
+use borrow.Author.Tests.{eqb-true}
+use Rattle.scaling.specs.Scaling.{allowedScale}
+use Rattle.wire.specs.declared.Answer.{Answer}
+use Rattle.wire.specs.declared.Answer.the-variants.{Accepted, Refused}
+use Rattle.parameters.specs.declared.Words.{Words}
+use Rattle.parameters.specs.declared.Class.{Class}
+use Rattle.parameters.specs.declared.Class.the-variants.{S, N, D, R}
+use Rattle.parameters.specs.declared.Entry.{Entry}
+use Rattle.parameters.specs.declared.Entry.the-variants.{NoBlock, NoParameter, Parameter}
+use Rattle.parameters.specs.declared.Allowed.{Allowed}
+use Rattle.parameters.specs.declared.Standing.{Standing}
+use Rattle.parameters.specs.Table.{Row, words, physical, ain, tot, ao, entryIn, defaultIn, rowsOf, entryOf, defaultOf}
+use Rattle.parameters.specs.Words.{allowsOf}
+use Rattle.parameters.specs.Refused.{readOnly, output, targetIn, ground, groundBy}
+use Rattle.history.specs.Past.{History, start, _▷_, latest}
+use Rattle.history.specs.Calls.{Event, wrote}
+use Rattle.history.specs.Rules.{stored, isAccepted}
+
+abbrev fits : Words → Bool
+fits w = ltb (w .first) (2 ^ 32) && ltb (w .second) (2 ^ 32)
+
+-- words of an entry that can be written
+abbrev pub sound : Entry → Words → Bool
+sound NoBlock w = true
+sound NoParameter w = true
+sound (Parameter S allowed) w = allowsOf allowed (w .first) (w .second) && fits w
+sound (Parameter N allowed) w = allowsOf allowed (w .first) (w .second) && fits w
+sound (Parameter D allowed) w = allowsOf allowed (w .first) (w .second) && fits w
+sound (Parameter R allowed) w = true
+
+pub Sound : History Event → Type 0
+Sound h = (block number : ℕ) → T (sound (entryOf block number) (stored h block number))
+
+-- ---- the defaults
+abbrev rowSound : Row → Bool
+rowSound r = sound (Parameter (r .class) (r .allowed)) (r .default)
+
+abbrev every : List Row → Bool
+every [] = true
+every (r ∷ rows) = rowSound r && every rows
+
+left : (a b : Bool) → T (a && b) → T a
+left true b t = tt
+left false b t = t
+
+right : (a b : Bool) → T (a && b) → T b
+right true b t = t
+right false b t = absurd t
+
+in-rows : (rows : List Row) (number : ℕ) → T (every rows) → T (sound (entryIn rows number) (defaultIn rows number))
+unfolding entryIn defaultIn
+in-rows [] number t = tt
+in-rows (r ∷ rows) number t = go (eqb number (r .number)) (in-rows rows number (right (rowSound r) (every rows) t))
+  where
+    go : (b : Bool) → T (sound (entryIn rows number) (defaultIn rows number)) → T (sound (cond b (Parameter (r .class) (r .allowed)) (entryIn rows number)) (cond b (r .default) (defaultIn rows number)))
+    go true h = left (rowSound r) (every rows) t
+    go false h = h
+
+physical-sound : T (every physical)
+unfolding physical allowsOf
+physical-sound = tt
+
+ain-sound : T (every ain)
+unfolding ain allowsOf allowedScale le ofBits ofInt ne
+ain-sound = tt
+
+tot-sound : T (every tot)
+unfolding tot allowsOf le ofBits ofInt
+tot-sound = tt
+
+ao-sound : T (every ao)
+unfolding ao allowsOf allowedScale ofBits ne
+ao-sound = tt
+
+defaults : (block number : ℕ) → T (sound (entryOf block number) (defaultOf block number))
+unfolding entryOf defaultOf rowsOf
+defaults block number = go (eqb block 0) (eqb block 1) (eqb block 2) (eqb block 3)
+  where
+    go : (a b c d : Bool) → T (sound (cond a (entryIn physical number) (cond b (entryIn ain number) (cond c (entryIn tot number) (cond d (entryIn ao number) NoBlock)))) (defaultIn (cond a physical (cond b ain (cond c tot (cond d ao [])))) number))
+    go true b c d = in-rows physical number physical-sound
+    go false true c d = in-rows ain number ain-sound
+    go false false true d = in-rows tot number tot-sound
+    go false false false true = in-rows ao number ao-sound
+    go false false false false = tt
+
+pub sound-start : Sound start
+unfolding Sound stored latest
+sound-start block number = defaults block number

@@ -1,0 +1,80 @@
+-- The calls of a history and what is seen of them, from paper 01, "Calls on the device" and "History rules". Assumes nothing.
+use Prim.Native.Nat.{ℕ, _^_}
+use mathlib.Core.Bool.{Bool, true, false, _&&_, cond}
+use mathlib.Core.List.{List, [], _∷_}
+use mathlib.Core.Option.{Option, none, some}
+use lib.Dec.{ltb}
+use Rattle.wire.specs.declared.Pair.{Pair}
+use Rattle.wire.specs.declared.Answer.{Answer}
+use Rattle.ao.specs.declared.Order.{Order}
+use Rattle.parameters.specs.declared.Words.{Words}
+use Rattle.parameters.specs.Table.{words}
+use Rattle.device.specs.declared.Device.{Device}
+use Rattle.device.specs.declared.Reading.{Reading}
+use Rattle.device.specs.declared.Reading.the-variants.{Read, Refused}
+use Rattle.device.specs.Factory.{factoryDevice}
+use Rattle.device.specs.Read.{readOf}
+use Rattle.device.specs.Calls.{writeOf, tickOf, telegramOf, warmStarted}
+use Rattle.history.specs.Past.{History, start, _▷_}
+
+-- a call with its arguments (reads move nothing and are left out)
+pub data Call : Type 0 where
+  tick : Bool → Pair → Pair → Call
+  telegram : ℕ → List ℕ → Call
+  write : ℕ → ℕ → ℕ → ℕ → Call
+  warmStart : Call
+
+-- "two 32-bit words"
+abbrev pub fitting : Call → Bool
+fitting (tick fault ain tot) = true
+fitting (telegram input bytes) = true
+fitting (write block number a b) = ltb a (2 ^ 32) && ltb b (2 ^ 32)
+fitting warmStart = true
+
+abbrev pub allFit : List Call → Bool
+allFit [] = true
+allFit (c ∷ cs) = fitting c && allFit cs
+
+-- "The rules are fed each call's arguments and what reads of OUT in AIN and AO give after each tick": of a tick those two reads, and its answer, the drive order
+pub data Event : Type 0 where
+  ticked : Bool → Pair → Pair → Words → Words → Order → Event
+  telegram : ℕ → List ℕ → Event
+  wrote : ℕ → ℕ → ℕ → ℕ → Event
+  warmed : Event
+
+abbrev pub seen : Reading → Words
+seen (Read w) = w
+seen (Refused r) = words 0 0
+
+-- the device after a call, and what is seen of the call
+unfoldable pub after : Device → Call → Device
+after d (tick fault ain tot) = tickOf d fault ain tot .device
+after d (telegram input bytes) = telegramOf d input bytes .device
+after d (write block number a b) = writeOf d block number a b .device
+after d warmStart = warmStarted d
+
+unfoldable pub event : Device → Call → Event
+unfolding after
+event d (tick fault ain tot) =
+    ticked fault ain tot (seen (readOf (tickOf d fault ain tot .device) 1 10)) (seen (readOf (tickOf d fault ain tot .device) 3 37)) (tickOf d fault ain tot .order)
+event d (telegram input bytes) = Event.telegram input bytes
+event d (write block number a b) = wrote block number a b
+event d warmStart = warmed
+
+-- a list of calls on a device: the device reached, and all that is seen, oldest first
+unfoldable pub reachedFrom : Device → List Call → Device
+reachedFrom d [] = d
+reachedFrom d (c ∷ cs) = reachedFrom (after d c) cs
+
+unfoldable pub traceFrom : Device → History Event → List Call → History Event
+traceFrom d h [] = h
+traceFrom d h (c ∷ cs) = traceFrom (after d c) (h ▷ event d c) cs
+
+-- "from the factory device"
+unfoldable pub reached : List Call → Device
+unfolding reachedFrom
+reached cs = reachedFrom factoryDevice cs
+
+unfoldable pub trace : List Call → History Event
+unfolding traceFrom
+trace cs = traceFrom factoryDevice start cs

@@ -1,0 +1,4 @@
+pub mod Past
+pub mod Calls
+pub mod Rules
+pub mod Claim
