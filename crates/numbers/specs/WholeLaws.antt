@@ -17,7 +17,7 @@ use lib.Ieee.Order.{round-mono, kept, drop}
 use lib.Ieee.Nearest.{div-mono}
 use lib.Ieee.Scale.{finite}
 use lib.Ieee.Casts.{toSigned-in}
-use Rattle.numbers.specs.Whole.{cutOf, limit, saturated, highestBits, highest24, highest24ℤ}
+use Rattle.numbers.specs.Whole.{cutOf, limit, bound, saturated, highestBits, highest24, highest24ℤ}
 
 -- ---- differences
 
@@ -79,6 +79,10 @@ limit-inside n (negsuc a) h = ap (λ (x : ℕ). negℤ (pos x)) (inside a n h)
     inside a n h = omega arith
 
 -- and does not see where an i64 ends
+pub bound-small : (n : ℤ) → mag n < 2 ^ 63 → bound n < 2 ^ 63
+bound-small (pos n) h = h
+bound-small (negsuc n) h = lit< tt
+
 pub limit-saturated : (n : ℕ) (z : ℤ) → n < 2 ^ 63 → limit n (saturated z) ≡ limit n z
 unfolding limit saturated
 limit-saturated n (pos a) h = ap pos (omega arith)
@@ -148,7 +152,8 @@ cut-within (fin true m e) = rw natAbs-neg (omega arith)
 cut-within (fin false m e) = omega arith
 
 -- it keeps the order of floats
-either : (t u : Bool) {X : Type 0} → (T t → X) → (T u → X) → T (t || (u && true)) → X
+-- what `le` of two floats of one sign says: a test of less, or one of equality
+pub either : (t u : Bool) {X : Type 0} → (T t → X) → (T u → X) → T (t || (u && true)) → X
 either true u f g h = f tt
 either false true f g h = g tt
 either false false f g h = absurd h
