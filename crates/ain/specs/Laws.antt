@@ -1,15 +1,16 @@
--- Laws of AIN's tick that the device's history cites: when an Auto tick is Good, and that OUT stays finite. Assumes nothing.
+-- Laws of AIN's tick: when an Auto tick is Good, that OUT stays finite, and that no alarm rises and falls in one tick. Assumes nothing.
 use Prim.Native.Nat.{ℕ, _/_}
 use mathlib.Core.Path.{_≡_, refl, sym, ap, _∙_, subst}
 use mathlib.Core.Bool.{Bool, true, false, not, _&&_, _||_, cond, true≢false}
 use lib.Dec.{T, eqb}
 use lib.IntN.{pos}
-use lib.Ieee.{Float, binary32, ofInt, ofBits, add, sub, mul, div, eq, fits}
+use lib.Ieee.{Float, binary32, ofInt, ofBits, add, sub, mul, div, eq, le, fits, isNan}
 use lib.Ieee.Fits.{add-fits}
 use lib.Ieee.Scale.{finite}
 use borrow.Author.Tests.{eqb-true}
 use Rattle.numbers.specs.Floats.{floatOf, bitsOf}
 use Rattle.numbers.specs.FloatLaws.{float-back, add-right, sub-left, div-left}
+use Rattle.numbers.specs.Order.{not-rise-and-fall}
 use Rattle.scaling.specs.declared.Scale.{Scale}
 use Rattle.scaling.specs.Scaling.{atFraction, fractionOf}
 use Rattle.scaling.specs.Laws.{fraction-unfinished, atFraction-unfinished}
@@ -23,7 +24,7 @@ use Rattle.ain.specs.declared.Settings.{Settings}
 use Rattle.ain.specs.declared.Alarms.{Alarms}
 use Rattle.ain.specs.declared.State.{State}
 use Rattle.ain.specs.Scaling.{scaledOf, filtered}
-use Rattle.ain.specs.Alarm.{alarmStatus, alarmsOf}
+use Rattle.ain.specs.Alarm.{rises, falls, alarmStatus, alarmsOf}
 use Rattle.ain.specs.Tick.{scaledValue, calculated, inputOf, failSafeOut, usableTick, unusableTick, autoBy, autoTick}
 
 -- ---- what is not finite stays so
@@ -186,3 +187,11 @@ module _ (s : Settings) (st : State) (h : FiniteStore s st) (mode bits status : 
       go false false false false e p = held 0x04
       go false false false true false p = held 0x04
       go false false false true true p = written pv (calculated-fits s (st .filter) bits, p)
+
+-- ---- one alarm in one tick
+-- No alarm rises and falls in one tick: the hysteresis is at least 0, and rounding keeps the order.
+pub not-both-ways : (low : Bool) (limit hysteresis out : Float) → T (fits binary32 limit) → isNan limit ≡ false → finite hysteresis ≡ true → T (le (ofBits binary32 0) hysteresis)
+    → T (rises low limit out) → T (falls low limit hysteresis out) → ⊥
+unfolding rises falls
+not-both-ways true limit hysteresis out F N H P r f = not-rise-and-fall binary32 limit hysteresis F N H P false out r f
+not-both-ways false limit hysteresis out F N H P r f = not-rise-and-fall binary32 limit hysteresis F N H P true out r f

@@ -12,11 +12,11 @@ use wire::Pair;
 // The stored parameters.
 #[repr(C)]
 pub struct Settings {
-    pub target: u8,
+    pub target: u32,
     pub pv_scale: Scale,
     pub out_scale: Scale,
     pub pv_ftime: f32,
-    pub fsafe_type: u8,
+    pub fsafe_type: u32,
     pub fsafe_value: f32,
     pub alarm_hys: f32,
     pub hi_hi_lim: f32,
@@ -40,7 +40,7 @@ pub struct State {
     // OUT as last given.
     pub out: Pair,
     // The actual mode's code.
-    pub mode: u8,
+    pub mode: u32,
     // The filter value.
     pub filter: Kept,
     // The last usable Auto value.
@@ -67,7 +67,7 @@ fn filter(time: f32, old: Kept, scaled: f32) -> f32
 }
 
 // OUT of an Auto tick that is not usable, for a finite or infinite scaled value.
-fn fail_safe(kind: u8, value: f32, last: Kept, scaled: f32, old: Pair, bad: u8) -> Pair
+fn fail_safe(kind: u32, value: f32, last: Kept, scaled: f32, old: Pair, bad: u8) -> Pair
     ensures { λ r. ⌜ r ≡ failSafeOut kind value last scaled old bad ⌝ }
 {
     let by_value = kind == 0;
@@ -158,7 +158,7 @@ fn no_alarms() -> Alarms
     }
 }
 
-fn usable_tick(s: Settings, st: State, mode: u8, pv: f32, status: u8) -> State
+fn usable_tick(s: Settings, st: State, mode: u32, pv: f32, status: u8) -> State
     ensures { λ r. ⌜ r ≡ usableTick s st mode pv status ⌝ }
 {
     let bits = numbers::floats::bits_of(pv);
@@ -180,26 +180,26 @@ fn usable_tick(s: Settings, st: State, mode: u8, pv: f32, status: u8) -> State
     }
 }
 
-fn unusable_tick(s: Settings, st: State, mode: u8, scaled: f32, bad: u8) -> State
+fn unusable_tick(s: Settings, st: State, mode: u32, scaled: f32, bad: u8) -> State
     ensures { λ r. ⌜ r ≡ unusableTick s st mode scaled bad ⌝ }
 {
     let given = fail_safe(s.fsafe_type, s.fsafe_value, st.last, scaled, st.out, bad);
     let out = numbers::floats::float_of(given.bits);
     let stand = all_alarms(s, st.alarms, out);
-    let filter = st.filter;
-    let last = st.last;
+    let same_filter = st.filter;
+    let same_last = st.last;
     let operator = st.operator;
     State {
         out: given,
         mode: mode,
-        filter: filter,
-        last: last,
+        filter: same_filter,
+        last: same_last,
         operator: operator,
         alarms: stand,
     }
 }
 
-fn auto_tick(s: Settings, st: State, mode: u8, bits: u32, status: u8) -> State
+fn auto_tick(s: Settings, st: State, mode: u32, bits: u32, status: u8) -> State
     ensures { λ r. ⌜ r ≡ autoTick s st mode bits status ⌝ }
 {
     let x = numbers::floats::float_of(bits);
@@ -221,12 +221,12 @@ fn man_tick(s: Settings, st: State) -> State
     let operator = st.operator;
     let out = numbers::floats::float_of(operator.bits);
     let stand = all_alarms(s, st.alarms, out);
-    let none = blocks::nothing();
+    let emptied = blocks::nothing();
     let last = st.last;
     State {
         out: operator,
         mode: blocks::MAN,
-        filter: none,
+        filter: emptied,
         last: last,
         operator: operator,
         alarms: stand,
@@ -237,17 +237,17 @@ fn out_of_service_tick(st: State) -> State
     ensures { λ r. ⌜ r ≡ outOfServiceTick st ⌝ }
 {
     let out = blocks::held(st.out);
-    let none = blocks::nothing();
+    let no_filter = blocks::nothing();
     let last = st.last;
     let operator = st.operator;
-    let clear = no_alarms();
+    let cleared = no_alarms();
     State {
         out: out,
         mode: blocks::OUT_OF_SERVICE,
-        filter: none,
+        filter: no_filter,
         last: last,
         operator: operator,
-        alarms: clear,
+        alarms: cleared,
     }
 }
 
@@ -270,14 +270,15 @@ pub fn tick(s: Settings, st: State, fault: bool, bits: u32, status: u8) -> State
 pub fn fresh() -> State
     ensures { λ r. ⌜ r ≡ freshState ⌝ }
 {
+    let out = Pair {
+        bits: 0,
+        status: 0x1f,
+    };
     let none = blocks::nothing();
     let operator = blocks::fresh_operator();
     let clear = no_alarms();
     State {
-        out: Pair {
-            bits: 0,
-            status: 0x1f,
-        },
+        out: out,
         mode: blocks::OUT_OF_SERVICE,
         filter: none,
         last: none,
@@ -287,8 +288,8 @@ pub fn fresh() -> State
 }
 
 // The operator's pair is taken for Man ticks; OUT shows it only then.
-pub fn operated(st: State, operator: Pair) -> State
-    ensures { λ r. ⌜ r ≡ operatedState st operator ⌝ }
+pub fn operated(st: State, pair: Pair) -> State
+    ensures { λ r. ⌜ r ≡ operatedState st pair ⌝ }
 {
     let out = st.out;
     let filter = st.filter;
@@ -299,7 +300,7 @@ pub fn operated(st: State, operator: Pair) -> State
         mode: st.mode,
         filter: filter,
         last: last,
-        operator: operator,
+        operator: pair,
         alarms: alarms,
     }
 }
@@ -308,15 +309,15 @@ pub fn warm_start(st: State) -> State
     ensures { λ r. ⌜ r ≡ warmStarted st ⌝ }
 {
     let out = blocks::held(st.out);
-    let none = blocks::nothing();
-    let operator = blocks::fresh_operator();
-    let clear = no_alarms();
+    let no_value = blocks::nothing();
+    let fresh_operator = blocks::fresh_operator();
+    let forgotten = no_alarms();
     State {
         out: out,
         mode: blocks::OUT_OF_SERVICE,
-        filter: none,
-        last: none,
-        operator: operator,
-        alarms: clear,
+        filter: no_value,
+        last: no_value,
+        operator: fresh_operator,
+        alarms: forgotten,
     }
 }

@@ -5,13 +5,13 @@ ghost use Rattle.blocks.specs.Common.{actualMode, heldOut, freshOperator
 use wire::Pair;
 
 // The codes of the modes.
-pub const OUT_OF_SERVICE: u8 = 0x80;
+pub const OUT_OF_SERVICE: u32 = 0x80;
 
-pub const MAN: u8 = 0x10;
+pub const MAN: u32 = 0x10;
 
-pub const AUTO: u8 = 0x08;
+pub const AUTO: u32 = 0x08;
 
-pub const RCAS: u8 = 0x02;
+pub const RCAS: u32 = 0x02;
 
 // A value that may be missing; while it is, the value is 0.
 #[repr(C)]
@@ -26,7 +26,7 @@ pub enum Input {
     Bad(u8),
 }
 
-pub fn actual_mode(fault: bool, target: u8) -> u8
+pub fn actual_mode(fault: bool, target: u32) -> u32
     ensures { λ r. ⌜ r ≡ actualMode fault target ⌝ }
 {
     let off = fault | (target == OUT_OF_SERVICE);

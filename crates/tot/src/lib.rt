@@ -19,10 +19,10 @@ const TOTAL_LIMIT: i64 = 1_000_000_000_000;
 // The stored parameters.
 #[repr(C)]
 pub struct Settings {
-    pub target: u8,
-    pub set_tot: u8,
-    pub mode_tot: u8,
-    pub fail_tot: u8,
+    pub target: u32,
+    pub set_tot: u32,
+    pub mode_tot: u32,
+    pub fail_tot: u32,
     pub preset_tot: f32,
 }
 
@@ -34,7 +34,7 @@ pub struct State {
     // TOTAL as last given.
     pub out: Pair,
     // The actual mode's code.
-    pub mode: u8,
+    pub mode: u32,
     // The last usable Auto rate.
     pub rate: Kept,
     pub operator_status: u8,
@@ -55,7 +55,7 @@ pub fn increment(rate: f32) -> i64
 }
 
 // An increment, or 0 where MODE_TOT drops it.
-fn by_mode(mode_tot: u8, z: i64) -> i64
+fn by_mode(mode_tot: u32, z: i64) -> i64
     ensures { λ r. ⌜ r ≡ wanted «mode_tot» z ⌝ }
 {
     let below = z < 0;
@@ -67,7 +67,7 @@ fn by_mode(mode_tot: u8, z: i64) -> i64
 }
 
 // What is added for a rate, if there is one.
-fn added(mode_tot: u8, rate: Kept) -> i64
+fn added(mode_tot: u32, rate: Kept) -> i64
     ensures { λ r. ⌜ r ≡ adds «mode_tot» rate ⌝ }
 {
     if rate.some {
@@ -77,7 +77,7 @@ fn added(mode_tot: u8, rate: Kept) -> i64
 }
 
 // The rate that is added for in an Auto tick that is not usable.
-fn fail_rate(fail_tot: u8, last: Kept, rate: f32) -> Kept
+fn fail_rate(fail_tot: u32, last: Kept, rate: f32) -> Kept
     ensures { λ r. ⌜ r ≡ failRate «fail_tot» last rate ⌝ }
 {
     let run = fail_tot == 0;
@@ -95,7 +95,7 @@ fn fail_rate(fail_tot: u8, last: Kept, rate: f32) -> Kept
 }
 
 // The rate that is added for in an Auto tick.
-fn added_rate(fail_tot: u8, last: Kept, rate: f32, input: Input) -> Kept
+fn added_rate(fail_tot: u32, last: Kept, rate: f32, input: Input) -> Kept
     ensures { λ r. ⌜ r ≡ addedRate «fail_tot» last rate input ⌝ }
 {
     match input {
@@ -115,7 +115,7 @@ fn last_rate(last: Kept, rate: f32, input: Input) -> Kept
 }
 
 // The status of an Auto tick that is not usable.
-fn fail_status(set_tot: u8, fail_tot: u8, last: Kept, bad: u8) -> u8
+fn fail_status(set_tot: u32, fail_tot: u32, last: Kept, bad: u8) -> u8
     ensures { λ r. ⌜ r ≡ failStatus «set_tot» «fail_tot» last bad ⌝ }
 {
     let run = (set_tot != 0) | (fail_tot == 0);
@@ -133,7 +133,7 @@ fn fail_status(set_tot: u8, fail_tot: u8, last: Kept, bad: u8) -> u8
 }
 
 // The status of an Auto tick.
-fn auto_status(set_tot: u8, fail_tot: u8, last: Kept, status: u8, input: Input) -> u8
+fn auto_status(set_tot: u32, fail_tot: u32, last: Kept, status: u8, input: Input) -> u8
     ensures { λ r. ⌜ r ≡ autoStatus «set_tot» «fail_tot» last status input ⌝ }
 {
     match input {
@@ -143,7 +143,7 @@ fn auto_status(set_tot: u8, fail_tot: u8, last: Kept, status: u8, input: Input) 
 }
 
 // The total after an Auto tick that adds z where SET_TOT lets it.
-fn next_total(set_tot: u8, preset_tot: f32, total: i64, z: i64) -> i64
+fn next_total(set_tot: u32, preset_tot: f32, total: i64, z: i64) -> i64
     ensures { λ r. ⌜ r ≡ nextTotal «set_tot» «preset_tot» total z ⌝ }
 {
     let run = set_tot == 0;
@@ -164,7 +164,7 @@ pub fn given(total: i64) -> u32
     numbers::floats::bits_of(numbers::whole::value_of(total) / TOTAL_FACTOR)
 }
 
-fn auto_tick(s: Settings, st: State, mode: u8, bits: u32, status: u8) -> State
+fn auto_tick(s: Settings, st: State, mode: u32, bits: u32, status: u8) -> State
     ensures { λ r. ⌜ r ≡ autoTick s st mode bits status ⌝ }
 {
     let rate = numbers::floats::float_of(bits);

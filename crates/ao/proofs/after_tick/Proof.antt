@@ -1,0 +1,16 @@
+-- `ao::after_tick` meets its contract: `silence_after` counts, and the rest is kept.
+-- Assumes nothing.
+use Rattle.ao.specs.FailSafe.{afterTick}
+use borrow.Author.Needs.{needs}
+use Rattle.ao.proofs.after_tick.Statement.{statement}
+use Rattle.ao.proofs.after_tick.Tie as tie
+
+silence-after-requires : tie.Need-silence-after-requires
+silence-after-requires c κs = search needs
+
+returns : tie.Need-returns
+unfolding afterTick
+returns c = rw (c .silence-after .ensures)
+
+pub after-tick-spec : {M : Type 1} → statement M
+after-tick-spec = tie.close (tie.spec silence-after-requires returns)

@@ -1,0 +1,16 @@
+-- `ao::warm_start` meets its contract: a start with OUT's value.
+-- Assumes nothing.
+use Rattle.ao.specs.State.{warmStarted}
+use borrow.Author.Needs.{needs}
+use Rattle.ao.proofs.warm_start.Statement.{statement}
+use Rattle.ao.proofs.warm_start.Tie as tie
+
+start-requires : tie.Need-start-requires
+start-requires c κs = search needs
+
+returns : tie.Need-returns
+unfolding warmStarted
+returns c = c .start .ensures
+
+pub warm-start-spec : {M : Type 1} → statement M
+warm-start-spec = tie.close (tie.spec start-requires returns)

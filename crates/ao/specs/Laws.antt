@@ -1,0 +1,174 @@
+-- Laws of AO that callers cite: what a status byte says of a telegram, the count that stops, the decision, refused telegrams, and that OUT stays finite.
+-- Assumes nothing.
+use mathlib.Core.Path.{_≡_, refl, ap, _∙_}
+use mathlib.Core.Bool.{Bool, true, false, cond, not, _&&_, _||_}
+use mathlib.Core.List.{List}
+use mathlib.Core.Option.{Option, none, some}
+use Prim.Native.Nat.{ℕ, _+_, _≤_, min}
+use native.Mathlib.Omega.{arith}
+use borrow.Author.Tests.{lt-ltb, le-ltb, ltb-true, ltb-false}
+use lib.Dec.{eqb, ltb}
+use lib.Ieee.{Float, binary32, sub}
+use lib.Ieee.Fits.{add-fits}
+use lib.Ieee.Scale.{finite}
+use Rattle.numbers.specs.Floats.{floatOf, bitsOf}
+use Rattle.numbers.specs.FloatLaws.{float-back, sub-right}
+use Rattle.scaling.specs.Scaling.{fractionOf, atFraction}
+use Rattle.scaling.specs.Laws.{atFraction-unfinished}
+use Rattle.wire.specs.Status.{qualityOf, subStatusOf}
+use Rattle.wire.specs.declared.Refusal.{Refusal}
+use Rattle.wire.specs.declared.Refusal.the-variants.{NoSuchInput}
+use Rattle.wire.specs.declared.Answer.{Answer}
+use Rattle.wire.specs.declared.Received.{Received}
+use Rattle.wire.specs.Bytes.{pairOf}
+use Rattle.blocks.specs.Common.{outOfService, man, actualMode}
+use Rattle.ao.specs.declared.Settings.{Settings}
+use Rattle.ao.specs.declared.State.{State}
+use Rattle.ao.specs.declared.Input.{Input}
+use Rattle.ao.specs.declared.Class.the-variants.{Usable, InitiateFailSafe, Neither}
+use Rattle.ao.specs.FailSafe.{classOf, classNumber, usable, initiates, InputOf, silenceAfter, failSafeActs, failSafeCase, caseOf, Case, following, fallback, held, nothingHeld, safety, rest, GivenOf, positioned, scaledOr, leadsTo, byMode}
+use Rattle.ao.specs.Telegram.{refusedWith, receivedOn, telegramOf}
+use Rattle.ao.specs.Tick.{closing, scaledOut, outOf, givenBy, givenByInput, inputUsed, givenIn, tickedWith, tickOf}
+
+-- ---- telegrams
+
+-- "usable if quality is 2 or 3, sub-status isn't 8 and the value is finite"
+pub usable-means : (status : ℕ) (finiteValue : Bool) → usable status finiteValue ≡ ((eqb (qualityOf status) 2 || eqb (qualityOf status) 3) && not (eqb (subStatusOf status) 8) && finiteValue)
+unfolding usable classOf
+usable-means status finiteValue = go (eqb (qualityOf status) 2 || eqb (qualityOf status) 3) (eqb (subStatusOf status) 8)
+  where
+    go : (good initiating : Bool) → (eqb (classNumber (cond good (cond initiating InitiateFailSafe Usable) Neither)) 1 && finiteValue) ≡ (good && not initiating && finiteValue)
+    go true true = refl
+    go true false = refl
+    go false initiating = refl
+
+-- "an initiate-fail-safe (IFS) if quality is 2 or 3 and sub-status 8"
+pub initiates-means : (status : ℕ) → initiates status ≡ ((eqb (qualityOf status) 2 || eqb (qualityOf status) 3) && eqb (subStatusOf status) 8)
+unfolding initiates classOf
+initiates-means status = go (eqb (qualityOf status) 2 || eqb (qualityOf status) 3) (eqb (subStatusOf status) 8)
+  where
+    go : (good initiating : Bool) → eqb (classNumber (cond good (cond initiating InitiateFailSafe Usable) Neither)) 2 ≡ (good && initiating)
+    go true true = refl
+    go true false = refl
+    go false initiating = refl
+
+-- A refused telegram leaves the state as it was.
+pub refused-keeps : (x : State) (input : ℕ) (bytes : List ℕ) (r : Refusal) → telegramOf x input bytes .answer ≡ Answer.Refused r → telegramOf x input bytes .state ≡ x
+unfolding telegramOf
+refused-keeps x input bytes r = go (ltb 1 input) (pairOf bytes)
+  where
+    go : (b : Bool) (p : Received) → cond b (refusedWith x NoSuchInput) (receivedOn x input p) .answer ≡ Answer.Refused r → cond b (refusedWith x NoSuchInput) (receivedOn x input p) .state ≡ x
+    go true p h = refl
+    go false (Received.Refused q) h = refl
+    go false (Received.Value p) h = let z : _≡_ {A = ℕ} 0 1 = cc in absurd (omega arith)
+
+-- ---- the count
+
+-- FSAFE_TIME is "whole ticks 0 to 65,535": the count that stops at 65,536 decides as the true one does.
+pub stopped-decides : (came : Bool) (n : ℕ) (ifs : Bool) (time : ℕ) → time ≤ 65535 → failSafeActs came (min n 65536) ifs time ≡ failSafeActs came n ifs time
+unfolding failSafeActs
+stopped-decides came n ifs time h = ap (λ (b : Bool). not came || b || ifs) (go (ltb time n) refl)
+  where
+    go : (b : Bool) → ltb time n ≡ b → ltb time (min n 65536) ≡ ltb time n
+    go true e = rw e (lt-ltb time (min n 65536) (omega (arith, ltb-true time n e)))
+    go false e = rw e (le-ltb time (min n 65536) (omega (arith, ltb-false time n e)))
+
+-- Counted from the true count or from the stopped one, the next is the same.
+pub stopped-counts : (n : ℕ) → silenceAfter true (min n 65536) ≡ min (n + 1) 65536
+unfolding silenceAfter
+stopped-counts n = omega arith
+
+-- ---- the decision, for any kind of value
+
+module _ {A : Type 0} (time kind : ℕ) (fsafeValue : A) (input : InputOf A) where
+  pub case-fail-safe : failSafeActs (input .some) (input .silence) (input .ifs) time ≡ true → caseOf time kind fsafeValue input ≡ failSafeCase kind fsafeValue (input .some) (input .value)
+  unfolding caseOf
+  case-fail-safe h = rw h
+
+  pub case-following : failSafeActs (input .some) (input .silence) (input .ifs) time ≡ false → caseOf time kind fsafeValue input ≡ following (input .value)
+  unfolding caseOf
+  case-following h = rw h
+
+-- Whatever holds of old OUT, of the operator's value and of all that scaling leads to holds of the value given.
+module _ {A O : Type 0} (P : O → Type 0) (scaled : A → Option O) (old : O) (kept : P old) (each : (w : A) (out : O) → scaled w ≡ some out → P out) where
+  scaled-holds : (status : ℕ) (o : Option O) → ((out : O) → o ≡ some out → P out) → P (scaledOr old status o .value)
+  scaled-holds status none h = kept
+  scaled-holds status (some out) h = h out refl
+
+  pub led-holds : (c : Case A) → P (leadsTo scaled old c .value)
+  unfolding leadsTo
+  led-holds (following w) = scaled-holds 0x80 (scaled w) (each w)
+  led-holds (fallback w) = scaled-holds 0x48 (scaled w) (each w)
+  led-holds (held w) = scaled-holds 0x44 (scaled w) (each w)
+  led-holds nothingHeld = kept
+  led-holds safety = kept
+
+pub given-holds : {O : Type 0} (P : O → Type 0) (mode : ℕ) (old operator : O) (operatorStatus : ℕ) (led : GivenOf O) → P old → P operator → P (led .value) → P (byMode mode old operator operatorStatus led .value)
+unfolding byMode
+given-holds P mode old operator operatorStatus led h o l = go (eqb mode 0x80) (eqb mode 0x10)
+  where
+    go : (a b : Bool) → P (cond a (record { value = old; status = 0x1F; order = rest }) (cond b (positioned operator operatorStatus) led) .value)
+    go true b = h
+    go false true = o
+    go false false = l
+
+-- ---- the decision in AO's tick
+
+-- whether fail-safe acts, and FSAFE_TYPE's case, by an input
+abbrev pub acts : Settings → Input → Bool
+acts s input = failSafeActs (input .some) (input .silence) (input .ifs) (s .«fsafe_time»)
+
+abbrev pub fsafeCase : Settings → Input → Case Float
+fsafeCase s input = failSafeCase (s .«fsafe_type») (s .«fsafe_value») (input .some) (input .value)
+
+-- In Auto and RCas, the actual mode being neither O/S nor Man, value, status and order are those of FSAFE_TYPE's case where fail-safe acts, and else
+-- those that the last usable telegram leads to.
+module _ (s : Settings) (x : State) (fault : Bool) (in-service : eqb (actualMode fault (s .target)) outOfService ≡ false) (not-Man : eqb (actualMode fault (s .target)) man ≡ false) where
+  pub tick-fail-safe :
+      acts s (inputUsed x (actualMode fault (s .target))) ≡ true →
+      tickOf s x fault ≡ tickedWith x (actualMode fault (s .target)) (givenBy s (x .out .bits) (fsafeCase s (inputUsed x (actualMode fault (s .target)))))
+  unfolding tickOf givenIn byMode givenByInput caseOf
+  tick-fail-safe h = rw (in-service, not-Man, h)
+
+  pub tick-following :
+      acts s (inputUsed x (actualMode fault (s .target))) ≡ false →
+      tickOf s x fault ≡ tickedWith x (actualMode fault (s .target)) (givenBy s (x .out .bits) (following (inputUsed x (actualMode fault (s .target)) .value)))
+  unfolding tickOf givenIn byMode givenByInput caseOf
+  tick-following h = rw (in-service, not-Man, h)
+
+-- ---- finite values
+
+-- The test of the end result suffices: a fraction that is not finite leads to no finite OUT.
+pub fraction-tested : (s : Settings) (w : Float) → finite (fractionOf (s .«pv_scale») w) ≡ false → finite (scaledOut s w) ≡ false
+unfolding scaledOut
+fraction-tested s w h = atFraction-unfinished (s .«out_scale») (closing (s .«increase_close») f) (go (eqb (s .«increase_close») 1))
+  where
+    f : Float
+    f = fractionOf (s .«pv_scale») w
+
+    go : (b : Bool) → finite (cond b (sub binary32 (floatOf 0x3F80_0000) f) f) ≡ false
+    go true = sub-right binary32 (floatOf 0x3F80_0000) f h
+    go false = h
+
+-- What scaling leads to is read back from its bits.
+scaled-back : (s : Settings) (w : Float) → floatOf (bitsOf (scaledOut s w)) ≡ scaledOut s w
+unfolding scaledOut atFraction
+scaled-back s w = float-back (scaledOut s w) (add-fits binary32 _ _)
+
+pub out-of-finite : (s : Settings) (w : Float) (bits : ℕ) → outOf s w ≡ some bits → finite (floatOf bits) ≡ true
+unfolding outOf
+out-of-finite s w bits = go (finite (scaledOut s w)) refl
+  where
+    go : (b : Bool) → finite (scaledOut s w) ≡ b → cond b (some (bitsOf (scaledOut s w))) none ≡ some bits → finite (floatOf bits) ≡ true
+    go true e h = let z : bitsOf (scaledOut s w) ≡ bits = cc in rw z at (ap finite (scaled-back s w) ∙ e)
+    go false e h = let z : _≡_ {A = ℕ} 0 1 = cc in absurd (omega arith)
+
+-- OUT stays finite.
+pub out-finite : (s : Settings) (x : State) (fault : Bool) → finite (floatOf (x .out .bits)) ≡ true → finite (floatOf (x .operator .bits)) ≡ true → finite (floatOf (tickOf s x fault .state .out .bits)) ≡ true
+unfolding tickOf tickedWith givenIn givenByInput givenBy
+out-finite s x fault h o =
+    given-holds finiteBits (actualMode fault (s .target)) (x .out .bits) (x .operator .bits) (x .operator .status) _ h o
+    (led-holds finiteBits (outOf s) (x .out .bits) h (out-of-finite s) _)
+  where
+    finiteBits : ℕ → Type 0
+    finiteBits bits = finite (floatOf bits) ≡ true

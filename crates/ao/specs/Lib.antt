@@ -1,0 +1,7 @@
+-- The definitions that `ao`'s contracts cite, and the laws that its callers cite.
+pub mod FailSafe
+pub mod State
+pub mod Telegram
+pub mod Tick
+pub mod Code
+pub mod Laws

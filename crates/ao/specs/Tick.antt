@@ -1,0 +1,77 @@
+-- AO's tick, from paper 01, "AO tick" and "Mode". Assumes nothing.
+use Prim.Native.Nat.{ℕ}
+use mathlib.Core.Bool.{Bool, cond}
+use mathlib.Core.Option.{Option, none, some}
+use lib.Dec.{eqb}
+use lib.Ieee.{Float, binary32, sub}
+use lib.Ieee.Scale.{finite}
+use Rattle.numbers.specs.Floats.{floatOf, bitsOf}
+use Rattle.scaling.specs.Scaling.{fractionOf, atFraction}
+use Rattle.blocks.specs.Common.{rcas, actualMode}
+use Rattle.ao.specs.declared.Settings.{Settings}
+use Rattle.ao.specs.declared.Input.{Input}
+use Rattle.ao.specs.declared.State.{State}
+use Rattle.ao.specs.declared.Order.{Order}
+use Rattle.ao.specs.declared.Ticked.{Ticked}
+use Rattle.ao.specs.FailSafe.{Case, OrderOf, position, safe, rest, GivenOf, leadsTo, byMode, caseOf, afterTick}
+use Rattle.ao.specs.State.{inputOf, inputFrom}
+
+-- ---- scaling
+
+-- "1 − f if INCREASE_CLOSE is 1"; a code over 1, which no write stores, counts as 0
+abbrev pub closing : ℕ → Float → Float
+closing increaseClose f = cond (eqb increaseClose 1) (sub binary32 (floatOf 0x3F80_0000) f) f
+
+-- "Fraction f = (w − low) / (high − low) by PV_SCALE, 1 − f if INCREASE_CLOSE is 1; OUT = f × (high − low) + low by OUT_SCALE"
+unfoldable pub scaledOut : Settings → Float → Float
+scaledOut s w = atFraction (s .«out_scale») (closing (s .«increase_close») (fractionOf (s .«pv_scale») w))
+
+-- OUT's bits; none "if not finite"
+unfoldable pub outOf : Settings → Float → Option ℕ
+outOf s w = cond (finite (scaledOut s w)) (some (bitsOf (scaledOut s w))) none
+
+-- ---- what a tick gives
+
+-- value (by its bits), status and order that a case leads to, with the bits of old OUT
+unfoldable pub givenBy : Settings → ℕ → Case Float → GivenOf ℕ
+givenBy s old c = leadsTo (outOf s) old c
+
+-- in Auto and RCas, by the input that the mode uses
+unfoldable pub givenByInput : Settings → ℕ → Input → GivenOf ℕ
+givenByInput s old input = givenBy s old (caseOf (s .«fsafe_time») (s .«fsafe_type») (s .«fsafe_value») (inputOf input))
+
+-- "Auto uses SP, RCas RCAS_IN"; a code that is no mode's, which no write stores, counts as Auto
+unfoldable pub inputUsed : State → ℕ → Input
+inputUsed state mode = cond (eqb mode rcas) (state .«rcas_in») (state .sp)
+
+-- what a tick gives in its actual mode
+unfoldable pub givenIn : Settings → State → ℕ → GivenOf ℕ
+givenIn s state mode =
+    byMode mode (state .out .bits) (state .operator .bits) (state .operator .status) (givenByInput s (state .out .bits) (inputUsed state mode))
+
+-- "The order is Position with a float, Safe or Rest.": the answer for each case of the rules
+abbrev pub driveOrder : OrderOf ℕ → Order
+driveOrder (position bits) = Order.Position (floatOf bits)
+driveOrder safe = Order.Safe
+driveOrder rest = Order.Rest
+
+abbrev pub inputAfterTick : Input → Input
+inputAfterTick input = inputFrom (afterTick (inputOf input))
+
+-- the next state and the order, from what the tick gives in its actual mode; n counts "in any mode", on both inputs
+unfoldable pub tickedWith : State → ℕ → GivenOf ℕ → Ticked
+tickedWith state mode g =
+    record {
+      state =
+          record {
+            out = record { bits = g .value; status = g .status };
+            mode = mode;
+            operator = state .operator;
+            sp = inputAfterTick (state .sp);
+            «rcas_in» = inputAfterTick (state .«rcas_in»);
+          };
+      order = driveOrder (g .order);
+    }
+
+unfoldable pub tickOf : Settings → State → Bool → Ticked
+tickOf s state fault = let mode = actualMode fault (s .target) in tickedWith state mode (givenIn s state mode)

@@ -1,0 +1,53 @@
+-- `parameters::entry_of` meets its contract: each arm's number picks its block.
+-- Assumes nothing.
+use borrow.Author.Tests.{ne-eqb}
+use Rattle.parameters.specs.Table.{entryOf}
+use borrow.Author.Needs.{needs}
+use Rattle.parameters.proofs.entry_of.Statement.{statement}
+use Rattle.parameters.proofs.entry_of.Tie as tie
+
+physical-entry-requires : tie.Need-physical-entry-requires
+physical-entry-requires c κs = search needs
+
+ain-entry-requires : tie.Need-ain-entry-requires
+ain-entry-requires c κs = search needs
+
+tot-entry-requires : tie.Need-tot-entry-requires
+tot-entry-requires c κs = search needs
+
+ao-entry-requires : tie.Need-ao-entry-requires
+ao-entry-requires c κs = search needs
+
+returns : tie.Need-returns
+unfolding entryOf
+returns c = rw (c .physical-entry .ensures, c .before .match .keys1)
+
+returns-2 : tie.Need-returns-2
+unfolding entryOf
+returns-2 c = rw (c .ain-entry .ensures, c .before .match .keys2)
+
+returns-3 : tie.Need-returns-3
+unfolding entryOf
+returns-3 c = rw (c .tot-entry .ensures, c .before .match .keys3)
+
+returns-4 : tie.Need-returns-4
+unfolding entryOf
+returns-4 c = rw (c .ao-entry .ensures, c .before .match .keys4)
+
+returns-5 : tie.Need-returns-5
+unfolding entryOf
+returns-5 c = rw (ne-eqb _ 0 (c .match .rest .0 .0 .0 .1), ne-eqb _ 1 (c .match .rest .0 .0 .1), ne-eqb _ 2 (c .match .rest .0 .1), ne-eqb _ 3 (c .match .rest .1))
+
+pub entry-of-spec : {M : Type 1} → statement M
+entry-of-spec =
+    tie.close
+    (tie.spec
+    physical-entry-requires
+    ain-entry-requires
+    tot-entry-requires
+    ao-entry-requires
+    returns
+    returns-2
+    returns-3
+    returns-4
+    returns-5)

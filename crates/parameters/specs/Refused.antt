@@ -1,0 +1,56 @@
+-- Whether a write is accepted, from paper 01, "Refused calls": one function of what stands and the call. Assumes nothing.
+use Prim.Native.Nat.{ℕ}
+use mathlib.Core.Bool.{Bool, true, false, not, _&&_, cond}
+use lib.Dec.{eqb}
+use Rattle.wire.specs.declared.Answer.{Answer}
+use Rattle.wire.specs.declared.Answer.the-variants.{Accepted, Refused}
+use Rattle.wire.specs.declared.Refusal.the-variants.{NoSuchBlock, NoSuchParameter, ReadOnly, Locked, WordsNotAllowed, NotMan}
+use Rattle.blocks.specs.Common.{man}
+use Rattle.parameters.specs.declared.Class.{Class}
+use Rattle.parameters.specs.declared.Class.the-variants.{S, N, D, R}
+use Rattle.parameters.specs.declared.Allowed.{Allowed}
+use Rattle.parameters.specs.declared.Allowed.the-variants.{Nothing, Lock, Mode, UpTo, Ends, Within, Finite, AtLeastZero, FiniteOr, Output, Total}
+use Rattle.parameters.specs.declared.Entry.{Entry}
+use Rattle.parameters.specs.declared.Entry.the-variants.{NoBlock, NoParameter, Parameter}
+use Rattle.parameters.specs.declared.Standing.{Standing}
+use Rattle.parameters.specs.Table.{entryOf}
+use Rattle.parameters.specs.Words.{allowsOf}
+
+-- "written parameter is R"
+abbrev pub readOnly : Class → Bool
+readOnly S = false
+readOnly N = false
+readOnly D = false
+readOnly R = true
+
+-- OUT and TOTAL: the parameters of a value with a status
+abbrev pub output : Allowed → Bool
+output Nothing = false
+output Lock = false
+output (Mode withRcas) = false
+output (UpTo n) = false
+output Ends = false
+output (Within low high) = false
+output Finite = false
+output AtLeastZero = false
+output (FiniteOr negative) = false
+output Output = true
+output (Total low high) = true
+
+-- the target of a block
+unfoldable pub targetIn : Standing → ℕ → ℕ
+targetIn s block = cond (eqb block 1) (s .ain) (cond (eqb block 2) (s .tot) (s .ao))
+
+-- "Write checks run 1 to 6": 1 "block over 3", 2 "block lacks the parameter", 3 "written parameter is R", 4 "WRITE_LOCKING 0, another parameter"
+-- (block 0 has WRITE_LOCKING alone), 5 "words not allowed", 6 "OUT or TOTAL, target not Man"
+abbrev pub groundBy : Standing → ℕ → ℕ → ℕ → Entry → Answer
+groundBy s block a b NoBlock = Refused NoSuchBlock
+groundBy s block a b NoParameter = Refused NoSuchParameter
+groundBy s block a b (Parameter class allowed) =
+    cond (readOnly class) (Refused ReadOnly)
+    (cond (eqb (s .lock) 0 && not (eqb block 0)) (Refused Locked)
+    (cond (not (allowsOf allowed a b)) (Refused WordsNotAllowed)
+    (cond (output allowed && not (eqb (targetIn s block) man)) (Refused NotMan) Accepted)))
+
+unfoldable pub ground : Standing → ℕ → ℕ → ℕ → ℕ → Answer
+ground s block number a b = groundBy s block a b (entryOf block number)
