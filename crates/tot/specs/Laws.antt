@@ -16,7 +16,7 @@ use lib.Ieee.Scale.{finite}
 use Rattle.numbers.specs.Floats.{floatOf}
 use Rattle.numbers.specs.FloatLaws.{float-back}
 use Rattle.numbers.specs.Whole.{cutOf, highest24, highest24ℤ}
-use Rattle.numbers.specs.WholeLaws.{either, apart-pp, apart-np, limit-within, limit-sum-near, cut-round-within, highest-value, value-exact, value-finite, round-finite}
+use Rattle.numbers.specs.WholeLaws.{apart-pp, apart-np, limit-within, limit-sum-near, cut-round-within, highest-value, value-exact, value-finite, round-finite}
 use Rattle.blocks.specs.declared.Kept.{Kept}
 use Rattle.blocks.specs.Common.{outOfService, man, actualMode}
 use Rattle.tot.specs.declared.Settings.{Settings}
@@ -37,6 +37,12 @@ sum-within total z = limit-within totalLimit (total +ℤ z)
 -- "within ±10^9", as PRESET_TOT and a written TOTAL are
 abbrev pub Writable : Float → Type 0
 Writable value = T (le (ofInt binary32 (negℤ (pos valueLimit))) value) × T (le value (ofInt binary32 (pos valueLimit)))
+
+-- what `le` of two floats of one sign says: a test of less, or one of equality
+either : (t u : Bool) {X : Type 0} → (T t → X) → (T u → X) → T (t || (u && true)) → X
+either true u f g h = f tt
+either false true f g h = g tt
+either false false f g h = absurd h
 
 -- the constants as floats
 billion : ofInt binary32 (pos valueLimit) ≡ fin false 1953125 (pos 9)

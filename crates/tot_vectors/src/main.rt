@@ -50,7 +50,7 @@ fn at(total: i64) -> State {
     }
 }
 
-fn settings(target: u8, set_tot: u8, mode_tot: u8, fail_tot: u8, preset: u32) -> Settings {
+fn settings(target: u32, set_tot: u32, mode_tot: u32, fail_tot: u32, preset: u32) -> Settings {
     io::write_all(OUT, b"settings ");
     io::print_hex(OUT, target as u64, 2);
     space();
