@@ -1,7 +1,7 @@
 -- Laws of AO that callers cite: what a status byte says of a telegram, the count that stops, the decision, refused telegrams, and that OUT stays finite.
 -- Assumes nothing.
-use mathlib.Core.Path.{_≡_, refl, ap, _∙_}
-use mathlib.Core.Bool.{Bool, true, false, cond, not, _&&_, _||_}
+use mathlib.Core.Path.{_≡_, refl, sym, ap, _∙_}
+use mathlib.Core.Bool.{Bool, true, false, cond, not, _&&_, _||_, true≢false}
 use mathlib.Core.List.{List}
 use mathlib.Core.Option.{Option, none, some}
 use Prim.Native.Nat.{ℕ, _+_, _≤_, min}
@@ -25,8 +25,9 @@ use Rattle.blocks.specs.Common.{outOfService, man, actualMode}
 use Rattle.ao.specs.declared.Settings.{Settings}
 use Rattle.ao.specs.declared.State.{State}
 use Rattle.ao.specs.declared.Input.{Input}
+use Rattle.ao.specs.declared.Class.{Class}
 use Rattle.ao.specs.declared.Class.the-variants.{Usable, InitiateFailSafe, Neither}
-use Rattle.ao.specs.FailSafe.{classOf, classNumber, usable, initiates, InputOf, silenceAfter, failSafeActs, failSafeCase, caseOf, Case, following, fallback, held, nothingHeld, safety, rest, GivenOf, positioned, scaledOr, leadsTo, byMode}
+use Rattle.ao.specs.FailSafe.{classOf, classNumber, usable, initiates, InputOf, afterTelegram, silenceAfter, failSafeActs, failSafeCase, caseOf, Case, following, fallback, held, nothingHeld, safety, rest, GivenOf, positioned, scaledOr, leadsTo, byMode}
 use Rattle.ao.specs.Telegram.{refusedWith, receivedOn, telegramOf}
 use Rattle.ao.specs.Tick.{closing, scaledOut, outOf, givenBy, givenByInput, inputUsed, givenIn, tickedWith, tickOf}
 
@@ -51,6 +52,30 @@ initiates-means status = go (eqb (qualityOf status) 2 || eqb (qualityOf status) 
     go true true = refl
     go true false = refl
     go false initiating = refl
+
+-- No telegram is both.
+pub usable-excludes : (status : ℕ) (finiteValue : Bool) → usable status finiteValue ≡ true → initiates status ≡ false
+unfolding usable initiates
+usable-excludes status finiteValue = go (classOf status)
+  where
+    go : (class : Class) → (eqb (classNumber class) 1 && finiteValue) ≡ true → eqb (classNumber class) 2 ≡ false
+    go Usable h = refl
+    go InitiateFailSafe h = absurd (true≢false (sym h))
+    go Neither h = refl
+
+-- An input after a usable telegram, after an IFS and after another, for any kind of value.
+module _ {A : Type 0} (status : ℕ) (finiteValue : Bool) (value : A) (input : InputOf A) where
+  pub after-usable : usable status finiteValue ≡ true → afterTelegram status finiteValue value input ≡ record { some = true; value = value; silence = 0; ifs = false }
+  unfolding afterTelegram
+  after-usable u = rw u
+
+  pub after-ifs : usable status finiteValue ≡ false → initiates status ≡ true → afterTelegram status finiteValue value input ≡ record { some = input .some; value = input .value; silence = input .silence; ifs = true }
+  unfolding afterTelegram
+  after-ifs u i = rw (u, i)
+
+  pub after-other : usable status finiteValue ≡ false → initiates status ≡ false → afterTelegram status finiteValue value input ≡ input
+  unfolding afterTelegram
+  after-other u i = rw (u, i)
 
 -- A refused telegram leaves the state as it was.
 pub refused-keeps : (x : State) (input : ℕ) (bytes : List ℕ) (r : Refusal) → telegramOf x input bytes .answer ≡ Answer.Refused r → telegramOf x input bytes .state ≡ x

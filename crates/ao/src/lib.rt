@@ -1,8 +1,8 @@
 // AO, the analog output block (paper 01, "AO tick"): setpoint telegrams on two inputs, fail-safe, scaling, and the
 // order that drives the valve.
 ghost use mathlib.Core.Path.{_≡_};
-ghost use Rattle.ao.specs.FailSafe.{classOf, classNumber, silenceAfter, failSafeActs, failSafeCase, positioned, scaledOr};
-ghost use Rattle.ao.specs.State.{inputOf, freshState, started, warmStarted, operatedBy, noTelegrams};
+ghost use Rattle.ao.specs.FailSafe.{classOf, silenceAfter, failSafeActs, failSafeCase, positioned, scaledOr};
+ghost use Rattle.ao.specs.State.{freshState, started, warmStarted, operatedBy, noTelegrams};
 ghost use Rattle.ao.specs.Telegram.{inputAfter, takenOn, telegramOf};
 ghost use Rattle.ao.specs.Tick.{scaledOut, outOf, givenBy, givenByInput, givenIn, inputAfterTick, tickOf};
 ghost use Rattle.ao.specs.Code.{ruleCase, givenOf};
@@ -168,11 +168,11 @@ fn heard(input: Input, pair: Pair) -> Input
     ensures { λ r. ⌜ r ≡ inputAfter input pair ⌝ }
 {
     let value = float_of(pair.bits);
-    let usable = is_finite(value);
+    let finite = is_finite(value);
     let class = class_of(pair.status);
     match class {
         Class::Usable => {
-            if usable {
+            if finite {
                 return Input {
                     some: true,
                     value,

@@ -9,12 +9,9 @@ use Rattle.parameters.specs.declared.Class.{Class}
 use Rattle.parameters.specs.declared.Class.the-variants.{S, N, D, R}
 use Rattle.parameters.specs.declared.Allowed.{Allowed}
 use Rattle.parameters.specs.declared.Allowed.the-variants.{Nothing, Lock, Mode, UpTo, Ends, Within, Finite, AtLeastZero, FiniteOr, Output, Total}
+use Rattle.parameters.specs.declared.Words.{Words}
 use Rattle.parameters.specs.declared.Entry.{Entry}
 use Rattle.parameters.specs.declared.Entry.the-variants.{NoBlock, NoParameter, Parameter}
-
-pub record Words : Type 0 where
-  pub first : ℕ
-  pub second : ℕ
 
 abbrev pub words : ℕ → ℕ → Words
 words a b = record { first = a; second = b }

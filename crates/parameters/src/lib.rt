@@ -45,6 +45,13 @@ pub enum Allowed {
     Total(f32, f32),
 }
 
+// A parameter's two words.
+#[repr(C)]
+pub struct Words {
+    pub first: u32,
+    pub second: u32,
+}
+
 // What a block and a number lead to.
 pub enum Entry {
     NoBlock,

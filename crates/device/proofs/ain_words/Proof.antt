@@ -1,0 +1,164 @@
+-- `device::ain_words` meets its contract: each arm's number picks the words.
+-- Assumes nothing.
+use borrow.Author.Tests.{ne-eqb}
+use Rattle.device.specs.Read.{ainWords}
+use borrow.Author.Needs.{needs}
+use Rattle.device.proofs.ain_words.Statement.{statement}
+use Rattle.device.proofs.ain_words.Tie as tie
+
+cast-code-words : tie.Need-cast-code-words
+cast-code-words c = search needs
+
+code-words-requires : tie.Need-code-words-requires
+code-words-requires c κs = search needs
+
+code-words-requires-2 : tie.Need-code-words-requires-2
+code-words-requires-2 c κs = search needs
+
+code-words-requires-3 : tie.Need-code-words-requires-3
+code-words-requires-3 c κs = search needs
+
+alarm-byte-requires : tie.Need-alarm-byte-requires
+alarm-byte-requires c κs = search needs
+
+code-words-requires-4 : tie.Need-code-words-requires-4
+code-words-requires-4 c κs = search needs
+
+pair-words-requires : tie.Need-pair-words-requires
+pair-words-requires c κs = search needs
+
+scale-words-requires : tie.Need-scale-words-requires
+scale-words-requires c κs = search needs
+
+scale-words-requires-2 : tie.Need-scale-words-requires-2
+scale-words-requires-2 c κs = search needs
+
+float-words-requires : tie.Need-float-words-requires
+float-words-requires c κs = search needs
+
+code-words-requires-5 : tie.Need-code-words-requires-5
+code-words-requires-5 c κs = search needs
+
+float-words-requires-2 : tie.Need-float-words-requires-2
+float-words-requires-2 c κs = search needs
+
+float-words-requires-3 : tie.Need-float-words-requires-3
+float-words-requires-3 c κs = search needs
+
+float-words-requires-4 : tie.Need-float-words-requires-4
+float-words-requires-4 c κs = search needs
+
+float-words-requires-5 : tie.Need-float-words-requires-5
+float-words-requires-5 c κs = search needs
+
+float-words-requires-6 : tie.Need-float-words-requires-6
+float-words-requires-6 c κs = search needs
+
+float-words-requires-7 : tie.Need-float-words-requires-7
+float-words-requires-7 c κs = search needs
+
+code-words-requires-6 : tie.Need-code-words-requires-6
+code-words-requires-6 c κs = search needs
+
+returns : tie.Need-returns
+unfolding ainWords
+returns c = rw (c .code-words .ensures, c .before .before .match .keys1)
+
+returns-2 : tie.Need-returns-2
+unfolding ainWords
+returns-2 c = rw (c .code-words2 .ensures, c .before .match .keys2)
+
+returns-3 : tie.Need-returns-3
+unfolding ainWords
+returns-3 c = rw (c .code-words3 .ensures, c .before .match .keys3)
+
+returns-4 : tie.Need-returns-4
+unfolding ainWords
+returns-4 c = rw (c .code-words4 .ensures, c .before .alarm-byte .ensures, c .before .before .match .keys4)
+
+returns-5 : tie.Need-returns-5
+unfolding ainWords
+returns-5 c = rw (c .pair-words .ensures, c .before .match .keys5)
+
+returns-6 : tie.Need-returns-6
+unfolding ainWords
+returns-6 c = rw (c .scale-words .ensures, c .before .match .keys6)
+
+returns-7 : tie.Need-returns-7
+unfolding ainWords
+returns-7 c = rw (c .scale-words2 .ensures, c .before .match .keys7)
+
+returns-8 : tie.Need-returns-8
+unfolding ainWords
+returns-8 c = rw (c .float-words .ensures, c .before .match .keys8)
+
+returns-9 : tie.Need-returns-9
+unfolding ainWords
+returns-9 c = rw (c .code-words5 .ensures, c .before .match .keys9)
+
+returns-10 : tie.Need-returns-10
+unfolding ainWords
+returns-10 c = rw (c .float-words2 .ensures, c .before .match .keys10)
+
+returns-11 : tie.Need-returns-11
+unfolding ainWords
+returns-11 c = rw (c .float-words3 .ensures, c .before .match .keys11)
+
+returns-12 : tie.Need-returns-12
+unfolding ainWords
+returns-12 c = rw (c .float-words4 .ensures, c .before .match .keys12)
+
+returns-13 : tie.Need-returns-13
+unfolding ainWords
+returns-13 c = rw (c .float-words5 .ensures, c .before .match .keys13)
+
+returns-14 : tie.Need-returns-14
+unfolding ainWords
+returns-14 c = rw (c .float-words6 .ensures, c .before .match .keys14)
+
+returns-15 : tie.Need-returns-15
+unfolding ainWords
+returns-15 c = rw (c .float-words7 .ensures, c .before .match .keys15)
+
+returns-16 : tie.Need-returns-16
+unfolding ainWords
+returns-16 c = rw (c .code-words6 .ensures, ne-eqb _ 1 (c .before .match .rest .0 .0 .0 .0 .0 .0 .0 .0 .0 .0 .0 .0 .0 .0 .1), ne-eqb _ 5 (c .before .match .rest .0 .0 .0 .0 .0 .0 .0 .0 .0 .0 .0 .0 .0 .1), ne-eqb _ 6 (c .before .match .rest .0 .0 .0 .0 .0 .0 .0 .0 .0 .0 .0 .0 .1), ne-eqb _ 7 (c .before .match .rest .0 .0 .0 .0 .0 .0 .0 .0 .0 .0 .0 .1), ne-eqb _ 10 (c .before .match .rest .0 .0 .0 .0 .0 .0 .0 .0 .0 .0 .1), ne-eqb _ 11 (c .before .match .rest .0 .0 .0 .0 .0 .0 .0 .0 .0 .1), ne-eqb _ 12 (c .before .match .rest .0 .0 .0 .0 .0 .0 .0 .0 .1), ne-eqb _ 16 (c .before .match .rest .0 .0 .0 .0 .0 .0 .0 .1), ne-eqb _ 17 (c .before .match .rest .0 .0 .0 .0 .0 .0 .1), ne-eqb _ 18 (c .before .match .rest .0 .0 .0 .0 .0 .1), ne-eqb _ 19 (c .before .match .rest .0 .0 .0 .0 .1), ne-eqb _ 21 (c .before .match .rest .0 .0 .0 .1), ne-eqb _ 23 (c .before .match .rest .0 .0 .1), ne-eqb _ 25 (c .before .match .rest .0 .1), ne-eqb _ 27 (c .before .match .rest .1))
+
+pub ain-words-spec : {M : Type 1} → statement M
+ain-words-spec =
+    tie.close
+    (tie.spec
+    cast-code-words
+    code-words-requires
+    code-words-requires-2
+    code-words-requires-3
+    alarm-byte-requires
+    code-words-requires-4
+    pair-words-requires
+    scale-words-requires
+    scale-words-requires-2
+    float-words-requires
+    code-words-requires-5
+    float-words-requires-2
+    float-words-requires-3
+    float-words-requires-4
+    float-words-requires-5
+    float-words-requires-6
+    float-words-requires-7
+    code-words-requires-6
+    returns
+    returns-2
+    returns-3
+    returns-4
+    returns-5
+    returns-6
+    returns-7
+    returns-8
+    returns-9
+    returns-10
+    returns-11
+    returns-12
+    returns-13
+    returns-14
+    returns-15
+    returns-16)

@@ -1,0 +1,25 @@
+-- `device::warm_start` meets its contract: each block's call gives its state.
+-- Assumes nothing.
+use Rattle.device.specs.Calls.{warmStarted}
+use borrow.Author.Needs.{needs}
+use Rattle.device.proofs.warm_start.Statement.{statement}
+use Rattle.device.proofs.warm_start.Tie as tie
+use Rattle.ao.proofs.warm_start.Reads as warm-start-reads′
+use Rattle.tot.proofs.warm_start.Reads as warm-start-reads′′
+
+warm-start-requires : tie.Need-warm-start-requires
+warm-start-requires c κs = search needs
+
+warm-start-requires-2 : tie.Need-warm-start-requires-2
+warm-start-requires-2 c κs = search needs
+
+warm-start-requires-3 : tie.Need-warm-start-requires-3
+warm-start-requires-3 c κs = search needs
+
+returns : tie.Need-returns
+unfolding warmStarted
+returns c = rw (c .before .before .before .warm-start3 .ensures, c .before .before .before .before .warm-start2 .ensures, c .before .before .before .before .before .warm-start .ensures)
+
+pub warm-start-spec : {M : Type 1} → statement M
+warm-start-spec =
+    tie.close (tie.spec warm-start-requires warm-start-requires-2 warm-start-requires-3 returns)

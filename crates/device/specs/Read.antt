@@ -1,0 +1,100 @@
+-- What reads give, from paper 01, "Parameters" and "Refused calls". Assumes nothing.
+use Prim.Native.Nat.{ℕ, _+_, _*_}
+use mathlib.Core.Bool.{Bool, true, false, cond}
+use lib.Dec.{eqb}
+use lib.Ieee.{Float}
+use Rattle.numbers.specs.Floats.{bitsOf}
+use Rattle.scaling.specs.declared.Scale.{Scale}
+use Rattle.wire.specs.declared.Pair.{Pair}
+use Rattle.wire.specs.declared.Refusal.the-variants.{NoSuchBlock, NoSuchParameter}
+use Rattle.ain.specs.declared.Alarms.{Alarms}
+use Rattle.parameters.specs.declared.Words.{Words}
+use Rattle.parameters.specs.declared.Entry.{Entry}
+use Rattle.parameters.specs.declared.Entry.the-variants.{NoBlock, NoParameter, Parameter}
+use Rattle.parameters.specs.Table.{words, entryOf}
+use Rattle.device.specs.declared.AinBlock.{AinBlock}
+use Rattle.device.specs.declared.TotBlock.{TotBlock}
+use Rattle.device.specs.declared.AoBlock.{AoBlock}
+use Rattle.device.specs.declared.Device.{Device}
+use Rattle.device.specs.declared.Reading.{Reading}
+use Rattle.device.specs.declared.Reading.the-variants.{Read, Refused}
+
+-- "A one-word parameter needs second word 0 and reads with it."
+abbrev pub code : ℕ → Words
+code n = words n 0
+
+abbrev pub float : Float → Words
+float x = words (bitsOf x) 0
+
+abbrev pub ends : Scale → Words
+ends s = words (bitsOf (s .low)) (bitsOf (s .high))
+
+-- "OUT and TOTAL read as the value and status last given"
+abbrev pub given : Pair → Words
+given p = words (p .bits) (p .status)
+
+abbrev pub bit : Bool → ℕ
+bit true = 1
+bit false = 0
+
+-- "7 alarms R, sum of 1 HI_HI, 2 HI, 4 LO, 8 LO_LO"
+unfoldable pub alarmByte : Alarms → ℕ
+alarmByte a = bit (a .«hi_hi») + 2 * bit (a .hi) + 4 * bit (a .lo) + 8 * bit (a .«lo_lo»)
+
+-- each parameter beside its number; another number, which is refused before, would give 0, 0
+unfoldable pub ainWords : AinBlock → ℕ → Words
+ainWords b number =
+    cond (eqb number 1) (code (b .«st_rev»))
+    (cond (eqb number 5) (code (b .settings .target))
+    (cond (eqb number 6) (code (b .state .mode))
+    (cond (eqb number 7) (code (alarmByte (b .state .alarms)))
+    (cond (eqb number 10) (given (b .state .out))
+    (cond (eqb number 11) (ends (b .settings .«pv_scale»))
+    (cond (eqb number 12) (ends (b .settings .«out_scale»))
+    (cond (eqb number 16) (float (b .settings .«pv_ftime»))
+    (cond (eqb number 17) (code (b .settings .«fsafe_type»))
+    (cond (eqb number 18) (float (b .settings .«fsafe_value»))
+    (cond (eqb number 19) (float (b .settings .«alarm_hys»))
+    (cond (eqb number 21) (float (b .settings .«hi_hi_lim»))
+    (cond (eqb number 23) (float (b .settings .«hi_lim»))
+    (cond (eqb number 25) (float (b .settings .«lo_lim»))
+    (cond (eqb number 27) (float (b .settings .«lo_lo_lim»)) (words 0 0)))))))))))))))
+
+unfoldable pub totWords : TotBlock → ℕ → Words
+totWords b number =
+    cond (eqb number 1) (code (b .«st_rev»))
+    (cond (eqb number 5) (code (b .settings .target))
+    (cond (eqb number 6) (code (b .state .mode))
+    (cond (eqb number 10) (given (b .state .out))
+    (cond (eqb number 13) (code (b .settings .«set_tot»))
+    (cond (eqb number 14) (code (b .settings .«mode_tot»))
+    (cond (eqb number 15) (code (b .settings .«fail_tot»))
+    (cond (eqb number 16) (float (b .settings .«preset_tot»)) (words 0 0))))))))
+
+unfoldable pub aoWords : AoBlock → ℕ → Words
+aoWords b number =
+    cond (eqb number 1) (code (b .«st_rev»))
+    (cond (eqb number 5) (code (b .settings .target))
+    (cond (eqb number 6) (code (b .state .mode))
+    (cond (eqb number 11) (ends (b .settings .«pv_scale»))
+    (cond (eqb number 23) (code (b .settings .«fsafe_time»))
+    (cond (eqb number 24) (code (b .settings .«fsafe_type»))
+    (cond (eqb number 25) (float (b .settings .«fsafe_value»))
+    (cond (eqb number 36) (code (b .settings .«increase_close»))
+    (cond (eqb number 37) (given (b .state .out))
+    (cond (eqb number 38) (ends (b .settings .«out_scale»)) (words 0 0))))))))))
+
+unfoldable pub wordsOf : Device → ℕ → ℕ → Words
+wordsOf d block number =
+    cond (eqb block 0) (code (d .«write_locking»))
+    (cond (eqb block 1) (ainWords (d .ain) number)
+    (cond (eqb block 2) (totWords (d .tot) number) (aoWords (d .ao) number)))
+
+-- "read 1, 2": "block over 3", "block lacks the parameter"
+abbrev pub readBy : Words → Entry → Reading
+readBy w NoBlock = Refused NoSuchBlock
+readBy w NoParameter = Refused NoSuchParameter
+readBy w (Parameter class allowed) = Read w
+
+unfoldable pub readOf : Device → ℕ → ℕ → Reading
+readOf d block number = readBy (wordsOf d block number) (entryOf block number)

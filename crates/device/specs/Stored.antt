@@ -1,0 +1,96 @@
+-- What an accepted write stores, from paper 01, "Parameters" and "History rules": each field beside its parameter's number. Assumes nothing.
+use Prim.Native.Nat.{ℕ, _+_, _%_}
+use mathlib.Core.Bool.{Bool, cond}
+use lib.Dec.{eqb}
+use Rattle.numbers.specs.Floats.{floatOf}
+use Rattle.scaling.specs.declared.Scale.{Scale}
+use Rattle.wire.specs.declared.Pair.{Pair}
+use Rattle.ain.specs.declared.Settings.{Settings as AinSettings}
+use Rattle.ain.specs.State.{operatedState}
+use Rattle.tot.specs.declared.Settings.{Settings as TotSettings}
+use Rattle.tot.specs.State.{writtenState}
+use Rattle.ao.specs.declared.Settings.{Settings as AoSettings}
+use Rattle.ao.specs.State.{operatedBy}
+use Rattle.parameters.specs.Table.{isStatic}
+use Rattle.device.specs.declared.AinBlock.{AinBlock}
+use Rattle.device.specs.declared.TotBlock.{TotBlock}
+use Rattle.device.specs.declared.AoBlock.{AoBlock}
+use Rattle.device.specs.declared.Device.{Device}
+
+-- "Scale ends, limits, hysteresis, values and seconds are floats given by their bits; codes, ticks and statuses are whole numbers."
+abbrev pub scaleOf : ℕ → ℕ → Scale
+scaleOf a b = record { low = floatOf a; high = floatOf b }
+
+-- "value and status"
+abbrev pub pairOf : ℕ → ℕ → Pair
+pairOf a b = record { bits = a; status = b % 256 }
+
+unfoldable pub ainSettings : AinSettings → ℕ → ℕ → ℕ → AinSettings
+ainSettings s number a b = record {
+  target = cond (eqb number 5) a (s .target);
+  «pv_scale» = cond (eqb number 11) (scaleOf a b) (s .«pv_scale»);
+  «out_scale» = cond (eqb number 12) (scaleOf a b) (s .«out_scale»);
+  «pv_ftime» = cond (eqb number 16) (floatOf a) (s .«pv_ftime»);
+  «fsafe_type» = cond (eqb number 17) a (s .«fsafe_type»);
+  «fsafe_value» = cond (eqb number 18) (floatOf a) (s .«fsafe_value»);
+  «alarm_hys» = cond (eqb number 19) (floatOf a) (s .«alarm_hys»);
+  «hi_hi_lim» = cond (eqb number 21) (floatOf a) (s .«hi_hi_lim»);
+  «hi_lim» = cond (eqb number 23) (floatOf a) (s .«hi_lim»);
+  «lo_lim» = cond (eqb number 25) (floatOf a) (s .«lo_lim»);
+  «lo_lo_lim» = cond (eqb number 27) (floatOf a) (s .«lo_lo_lim»);
+}
+
+unfoldable pub totSettings : TotSettings → ℕ → ℕ → TotSettings
+totSettings s number a = record {
+  target = cond (eqb number 5) a (s .target);
+  «set_tot» = cond (eqb number 13) a (s .«set_tot»);
+  «mode_tot» = cond (eqb number 14) a (s .«mode_tot»);
+  «fail_tot» = cond (eqb number 15) a (s .«fail_tot»);
+  «preset_tot» = cond (eqb number 16) (floatOf a) (s .«preset_tot»);
+}
+
+unfoldable pub aoSettings : AoSettings → ℕ → ℕ → ℕ → AoSettings
+aoSettings s number a b = record {
+  target = cond (eqb number 5) a (s .target);
+  «pv_scale» = cond (eqb number 11) (scaleOf a b) (s .«pv_scale»);
+  «out_scale» = cond (eqb number 38) (scaleOf a b) (s .«out_scale»);
+  «fsafe_time» = cond (eqb number 23) a (s .«fsafe_time»);
+  «fsafe_type» = cond (eqb number 24) a (s .«fsafe_type»);
+  «fsafe_value» = cond (eqb number 25) (floatOf a) (s .«fsafe_value»);
+  «increase_close» = cond (eqb number 36) a (s .«increase_close»);
+}
+
+-- "A block's ST_REV is the number of accepted S writes to it, modulo 65,536, equal values included.": said once for all blocks
+unfoldable pub revAfter : Bool → ℕ → ℕ
+revAfter counted rev = cond counted ((rev + 1) % 65536) rev
+
+-- a block after an accepted write. "Writes of 10 and 37 count as the operator's: AIN and AO keep that pair ..; TOTAL is set directly and its status kept for Man"
+unfoldable pub ainWritten : AinBlock → ℕ → ℕ → ℕ → AinBlock
+ainWritten block number a b = record {
+  settings = ainSettings (block .settings) number a b;
+  state = cond (eqb number 10) (operatedState (block .state) (pairOf a b)) (block .state);
+  «st_rev» = revAfter (isStatic 1 number) (block .«st_rev»);
+}
+
+unfoldable pub totWritten : TotBlock → ℕ → ℕ → ℕ → TotBlock
+totWritten block number a b = record {
+  settings = totSettings (block .settings) number a;
+  state = cond (eqb number 10) (writtenState (block .state) a (b % 256)) (block .state);
+  «st_rev» = revAfter (isStatic 2 number) (block .«st_rev»);
+}
+
+unfoldable pub aoWritten : AoBlock → ℕ → ℕ → ℕ → AoBlock
+aoWritten block number a b = record {
+  settings = aoSettings (block .settings) number a b;
+  state = cond (eqb number 37) (operatedBy (block .state) (pairOf a b)) (block .state);
+  «st_rev» = revAfter (isStatic 3 number) (block .«st_rev»);
+}
+
+-- "Blocks: 0 physical, 1 AIN, 2 TOT, 3 AO."; block 0 has WRITE_LOCKING alone
+unfoldable pub storedIn : Device → ℕ → ℕ → ℕ → ℕ → Device
+storedIn d block number a b = record {
+  «write_locking» = cond (eqb block 0) a (d .«write_locking»);
+  ain = cond (eqb block 1) (ainWritten (d .ain) number a b) (d .ain);
+  tot = cond (eqb block 2) (totWritten (d .tot) number a b) (d .tot);
+  ao = cond (eqb block 3) (aoWritten (d .ao) number a b) (d .ao);
+}
