@@ -226,7 +226,7 @@ units-neg f q k = go (ltb (q * 2 ^ k) (2 ^ (low f + suc (emax f)))) q
     go true (suc i) = refl
     go false i = refl
 
-round-neg : (f : Format) (a c : ℕ) → round f true a c ≡ neg (round f false a c)
+pub round-neg : (f : Format) (a c : ℕ) → round f true a c ≡ neg (round f false a c)
 round-neg f a c =
     let k = drop (prec f) (a * 2 ^ low f) c in
     round-is f true a c ∙ units-neg f (kept (prec f) (a * 2 ^ low f) c) k ∙ ap neg (sym (round-is f false a c))
@@ -357,7 +357,7 @@ module _ (f : Format) (x h : Float) (F : T (fits f x)) (N : isNan x ≡ false) (
 -- ---- cutting toward 0
 
 -- ±a ≤ ±b, in ℤ
-signed-le : (s : Bool) (a : ℕ) (t : Bool) (b : ℕ) → posPart s a + negPart t b ≤ posPart t b + negPart s a → T (leZ (cond s (negℤ (pos a)) (pos a)) (cond t (negℤ (pos b)) (pos b)))
+pub signed-le : (s : Bool) (a : ℕ) (t : Bool) (b : ℕ) → posPart s a + negPart t b ≤ posPart t b + negPart s a → T (leZ (cond s (negℤ (pos a)) (pos a)) (cond t (negℤ (pos b)) (pos b)))
 signed-le false a false b h = le→leb a b (omega arith)
 signed-le false a true zero h = le→leb a 0 (omega arith)
 signed-le false a true (suc b) h = omega arith

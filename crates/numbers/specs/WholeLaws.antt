@@ -1,23 +1,22 @@
--- Laws of the definitions in Whole: what a limit does to one number and to two, that cutting keeps the order, what clearing
+-- Laws of the definitions in Whole: what a limit does to one number and to two, how far a cut goes, what clearing
 -- low bits leaves, and that the result is a float exactly. Assumes nothing.
 use mathlib.Core.Path.{_≡_, refl, sym, ap, _∙_, subst}
-use mathlib.Core.Bool.{Bool, true, false, not, _&&_, _||_, cond, true≢false}
+use mathlib.Core.Bool.{Bool, true, false, not, cond, true≢false}
 use Prim.Native.Nat.{ℕ, zero, suc, _+_, _-_, _*_, _/_, _^_, _≤_, _<_, min, zero-le}
-use native.Mathlib.Nat.{le-trans, le-of-eq, le-of-lt, lt-of-lt-of-le, lt-of-le-of-lt, zero-lt-suc, mul-one, mul-assoc, div-one, div-mul-le-self, le-div-iff-mul-le, mul-pos, not-le-of-lt, lt-irrefl, lt-of-not-le, one-mul, zero-div, zero-mul}
+use native.Mathlib.Nat.{le-trans, le-of-eq, lt-of-lt-of-le, lt-of-le-of-lt, zero-lt-suc, mul-one, mul-assoc, div-one, div-mul-le-self, le-div-iff-mul-le, mul-pos, not-le-of-lt, lt-irrefl, lt-of-not-le, one-mul, zero-mul}
 use native.Mathlib.Omega.{arith}
-use lib.Dec.{T, ltb, eqb, le→leb, leb→le, ltb→lt, nltb→le, eqb→eq, lit≤, lit<}
+use lib.Dec.{T, ltb, le→leb, leb→le, ltb→lt, nltb→le, lit≤, lit<}
 use lib.Pow.{pow-add, pow-pos, pow-mono, shl-lt}
 use lib.IntN.{ℤ, pos, negsuc, negℤ, natAbs, subℕ, _+ℤ_, _-ℤ_, +ℤ-assoc, +ℤ-comm, +ℤ-idl, +ℤ-invr, negℤ-+ℤ}
-use lib.Signed.{mag, nonNeg, leZ, _≤ℤ_, ≤ℤ-refl}
+use lib.Signed.{mag, nonNeg, leZ, _≤ℤ_}
 use lib.Ieee.{Float, nan, inf, fin, Format, binary32, binary64, prec, emax, low, up, down, size, round, odd, units, neg, le, ofInt, toSigned}
 use lib.Ieee.Digits.{size-lt, size-le, size-reaches}
-use lib.Ieee.Fits.{kept-lt, round-is, down-pos}
+use lib.Ieee.Fits.{kept-lt, round-is}
 use lib.Ieee.Exact.{HasValue, round-exact}
 use lib.Ieee.Order.{round-mono, kept, drop}
-use lib.Ieee.Nearest.{div-mono}
 use lib.Ieee.Scale.{finite}
-use lib.Ieee.Casts.{toSigned-in}
-use Rattle.numbers.specs.Whole.{cutOf, limit, saturated, highestBits, highest24, highest24ℤ}
+use Rattle.numbers.specs.Order.{signed-le, round-neg, cut-mono}
+use Rattle.numbers.specs.Whole.{cutOf, limit, bound, saturated, highestBits, highest24, highest24ℤ}
 
 -- ---- differences
 
@@ -79,6 +78,10 @@ limit-inside n (negsuc a) h = ap (λ (x : ℕ). negℤ (pos x)) (inside a n h)
     inside a n h = omega arith
 
 -- and does not see where an i64 ends
+pub bound-small : (n : ℤ) → mag n < 2 ^ 63 → bound n < 2 ^ 63
+bound-small (pos n) h = h
+bound-small (negsuc n) h = lit< tt
+
 pub limit-saturated : (n : ℕ) (z : ℤ) → n < 2 ^ 63 → limit n (saturated z) ≡ limit n z
 unfolding limit saturated
 limit-saturated n (pos a) h = ap pos (omega arith)
@@ -88,22 +91,12 @@ limit-saturated n (negsuc a) h = ap (λ (x : ℕ). negℤ (pos x)) (same a n h)
     same a n h = omega arith
 
 -- it keeps the order
-below-zero : (a b : ℕ) → T (leZ (negℤ (pos a)) (pos b))
-below-zero zero b = le→leb zero b (omega arith)
-below-zero (suc a) b = tt
-
-neg-order : (a b : ℕ) → b ≤ a → T (leZ (negℤ (pos a)) (negℤ (pos b)))
-neg-order zero zero h = tt
-neg-order zero (suc b) h = absurd (omega arith)
-neg-order (suc a) zero h = tt
-neg-order (suc a) (suc b) h = le→leb b a (omega arith)
-
 pub limit-mono : (n : ℕ) (a b : ℤ) → a ≤ℤ b → limit n a ≤ℤ limit n b
 unfolding limit
 limit-mono n (pos a) (pos b) h = let k : a ≤ b = leb→le a b (h .le) in record { le = le→leb (min a n) (min b n) (omega arith) }
 limit-mono n (pos a) (negsuc b) h = absurd (h .le)
-limit-mono n (negsuc a) (pos b) h = record { le = below-zero (min (suc a) n) (min b n) }
-limit-mono n (negsuc a) (negsuc b) h = let k : b ≤ a = leb→le b a (h .le) in record { le = neg-order (min (suc a) n) (min (suc b) n) (omega arith) }
+limit-mono n (negsuc a) (pos b) h = record { le = signed-le true (min (suc a) n) false (min b n) (omega arith) }
+limit-mono n (negsuc a) (negsuc b) h = let k : b ≤ a = leb→le b a (h .le) in record { le = signed-le true (min (suc a) n) true (min (suc b) n) (omega arith) }
 
 -- and never moves two numbers apart
 pub limit-near : (n : ℕ) (a b : ℤ) → natAbs (limit n a -ℤ limit n b) ≤ natAbs (a -ℤ b)
@@ -146,63 +139,6 @@ cut-within (inf true) = lit≤ tt
 cut-within (inf false) = lit≤ tt
 cut-within (fin true m e) = rw natAbs-neg (omega arith)
 cut-within (fin false m e) = omega arith
-
--- it keeps the order of floats
-either : (t u : Bool) {X : Type 0} → (T t → X) → (T u → X) → T (t || (u && true)) → X
-either true u f g h = f tt
-either false true f g h = g tt
-either false false f g h = absurd h
-
-zeros : (a b : ℕ) → T (eqb a b && eqb a 0) → (a ≡ 0) × (b ≡ 0)
-zeros a b h = go (eqb a b) (eqb→eq a b) (eqb a 0) (eqb→eq a 0) h
-  where
-    go : (t : Bool) → (T t → a ≡ b) → (u : Bool) → (T u → a ≡ 0) → T (t && u) → (a ≡ 0) × (b ≡ 0)
-    go true f true g h = (g tt, sym (f tt) ∙ g tt)
-    go true f false g h = absurd h
-    go false f u g h = absurd h
-
-least : (z : ℤ) → mag z < 2 ^ 63 → negsuc (2 ^ 63 - 1) ≤ℤ z
-least (pos a) h = record { le = tt }
-least (negsuc a) h = record { le = le→leb a (2 ^ 63 - 1) (omega arith) }
-
-greatest : (z : ℤ) → mag z < 2 ^ 63 → z ≤ℤ pos (2 ^ 63 - 1)
-greatest (pos a) h = record { le = le→leb a (2 ^ 63 - 1) (omega arith) }
-greatest (negsuc a) h = record { le = tt }
-
-pub cut-mono : (x y : Float) → T (le x y) → cutOf x ≤ℤ cutOf y
-unfolding le toSigned
-cut-mono nan y h = absurd h
-cut-mono (inf s) nan h = absurd h
-cut-mono (inf true) (inf t) h = least (toSigned 63 (inf t)) (toSigned-in 63 (inf t))
-cut-mono (inf false) (inf true) h = absurd h
-cut-mono (inf false) (inf false) h = ≤ℤ-refl (pos (2 ^ 63 - 1))
-cut-mono (inf true) (fin t n d) h = least (toSigned 63 (fin t n d)) (toSigned-in 63 (fin t n d))
-cut-mono (inf false) (fin t n d) h = absurd h
-cut-mono (fin s m e) nan h = absurd h
-cut-mono (fin s m e) (inf true) h = absurd h
-cut-mono (fin s m e) (inf false) h = greatest (toSigned 63 (fin s m e)) (toSigned-in 63 (fin s m e))
-cut-mono (fin true m e) (fin true n d) h =
-    let a = m * up e * down d in
-    let b = n * up d * down e in
-    let k : b ≤ a = either (ltb b a) (eqb a b) (λ t. le-of-lt (ltb→lt b a t)) (λ t. le-of-eq (sym (eqb→eq a b t))) h in
-    let q : n * up d / down d ≤ m * up e / down e = div-mono (n * up d) (down d) (m * up e) (down e) (down-pos d) (down-pos e) k in
-    record { le = neg-order (min (m * up e / down e) (2 ^ 63)) (min (n * up d / down d) (2 ^ 63)) (omega arith) }
-cut-mono (fin true m e) (fin false n d) h = record { le = below-zero (min (m * up e / down e) (2 ^ 63)) (min (n * up d / down d) (2 ^ 63 - 1)) }
-cut-mono (fin false m e) (fin true n d) h =
-    let z = zeros (m * up e * down d) (n * up d * down e) h in
-    let p : m * up e / down e ≡ 0 = none (m * up e) (down d) (down e) (down-pos d) (down-pos e) (z .0) in
-    let q : n * up d / down d ≡ 0 = none (n * up d) (down e) (down d) (down-pos e) (down-pos d) (z .1) in
-    rw (p, q) (≤ℤ-refl (pos 0))
-  where
-    none : (a b c : ℕ) → 0 < b → 0 < c → a * b ≡ 0 → a / c ≡ 0
-    none zero b c B C h = zero-div c
-    none (suc a) b c B C h = absurd (lt-irrefl 0 (subst (λ (x : ℕ). 0 < x) h (mul-pos (zero-lt-suc a) B)))
-cut-mono (fin false m e) (fin false n d) h =
-    let a = m * up e * down d in
-    let b = n * up d * down e in
-    let k : a ≤ b = either (ltb a b) (eqb a b) (λ t. le-of-lt (ltb→lt a b t)) (λ t. le-of-eq (eqb→eq a b t)) h in
-    let q : m * up e / down e ≤ n * up d / down d = div-mono (m * up e) (down e) (n * up d) (down d) (down-pos e) (down-pos d) k in
-    record { le = le→leb (min (m * up e / down e) (2 ^ 63 - 1)) (min (n * up d / down d) (2 ^ 63 - 1)) (omega arith) }
 
 -- ---- the highest bits
 
@@ -255,23 +191,6 @@ value-finite nan s a c h = absurd h
 value-finite (inf t) s a c h = absurd h
 value-finite (fin t m e) s a c h = tt
 
--- a rounded fraction with the other sign
-flip-odd : (d q k l : ℕ) → neg (odd d false q k l) ≡ odd d true q k l
-unfolding odd neg
-flip-odd d zero k l = refl
-flip-odd d (suc q) k l = refl
-
-flip-cond : (f : Format) (t : Bool) (q k : ℕ) → neg (cond t (odd (suc (prec f)) false q k (low f)) (inf false)) ≡ cond t (odd (suc (prec f)) true q k (low f)) (inf true)
-flip-cond f true q k = flip-odd (suc (prec f)) q k (low f)
-flip-cond f false q k = unfold neg in refl
-
-flip-units : (f : Format) (q k : ℕ) → neg (units f false q k) ≡ units f true q k
-unfolding units
-flip-units f q k = flip-cond f (ltb (q * 2 ^ k) (2 ^ (low f + suc (emax f)))) q k
-
-pub neg-round : (f : Format) (a c : ℕ) → neg (round f false a c) ≡ round f true a c
-neg-round f a c = ap neg (round-is f false a c) ∙ flip-units f (kept (prec f) (a * 2 ^ low f) c) (drop (prec f) (a * 2 ^ low f) c) ∙ sym (round-is f true a c)
-
 -- a fraction no larger than one that rounds to a finite float does so too
 sized : Float → Type 0
 sized nan = Unit
@@ -312,7 +231,7 @@ round-finite f s a c b d C D h t = go s
 
     go : (s : Bool) → T (finite (round f s a c))
     go false = plain
-    go true = subst (λ (x : Float). T (finite x)) (neg-round f a c) (neg-finite (round f false a c) plain)
+    go true = subst (λ (x : Float). T (finite x)) (sym (round-neg f a c)) (neg-finite (round f false a c) plain)
 
 -- the highest bits of a whole number of an i64, as a float: exactly that number, and so finite
 pub value-exact : (z : ℤ) → natAbs z ≤ 2 ^ 63 → HasValue (ofInt binary32 (highest24ℤ z)) (not (nonNeg z)) (highest24 (natAbs z)) 1
@@ -338,9 +257,9 @@ cut-neg (inf false) n N h = absurd (not-le-of-lt N h)
 cut-neg (fin true m e) n N h = let k : min (m * up e / down e) (2 ^ 63) ≤ n = rw natAbs-neg at h in omega arith
 cut-neg (fin false m e) n N h = rw natAbs-neg (omega arith)
 
-between : (z : ℤ) (n : ℕ) → pos 0 ≤ℤ z → z ≤ℤ pos n → natAbs z ≤ n
-between (pos a) n h k = leb→le a n (k .le)
-between (negsuc a) n h k = absurd (h .le)
+between : (z : ℤ) (n : ℕ) → T (leZ (pos 0) z) → T (leZ z (pos n)) → natAbs z ≤ n
+between (pos a) n h k = leb→le a n k
+between (negsuc a) n h k = absurd h
 
 zero-cut : (f : Format) → cutOf (round f false 0 1) ≡ pos 0
 unfolding round toSigned
@@ -354,9 +273,9 @@ cut-round-within f s a c b d n C D h e N = go s
     plain : natAbs (cutOf (round f false a c)) ≤ n
     plain =
         between (cutOf (round f false a c)) n
-        (subst (λ (z : ℤ). z ≤ℤ cutOf (round f false a c)) (zero-cut f) (cut-mono (round f false 0 1) (round f false a c) (round-mono f 0 1 a c (zero-lt-suc 0) C (le-trans (le-of-eq (zero-mul c)) zero-le))))
-        (subst (λ (z : ℤ). cutOf (round f false a c) ≤ℤ z) e (cut-mono (round f false a c) (round f false b d) (round-mono f a c b d C D h)))
+        (subst (λ (z : ℤ). T (leZ z (cutOf (round f false a c)))) (zero-cut f) (cut-mono 63 (round f false 0 1) (round f false a c) (round-mono f 0 1 a c (zero-lt-suc 0) C (le-trans (le-of-eq (zero-mul c)) zero-le))))
+        (subst (λ (z : ℤ). T (leZ (cutOf (round f false a c)) z)) e (cut-mono 63 (round f false a c) (round f false b d) (round-mono f a c b d C D h)))
 
     go : (s : Bool) → natAbs (cutOf (round f s a c)) ≤ n
     go false = plain
-    go true = subst (λ (x : Float). natAbs (cutOf x) ≤ n) (neg-round f a c) (cut-neg (round f false a c) n N plain)
+    go true = subst (λ (x : Float). natAbs (cutOf x) ≤ n) (sym (round-neg f a c)) (cut-neg (round f false a c) n N plain)

@@ -1,8 +1,8 @@
 -- Laws of TOT's definitions, for callers: the total stays within its limit, the value given is finite, ticks in O/S and Man
 -- leave the total, and a tick never moves two totals apart. Assumes nothing.
-use mathlib.Core.Path.{_≡_, refl, sym, ap, _∙_, subst}
+use mathlib.Core.Path.{_≡_, refl, sym, ap}
 use mathlib.Core.Bool.{Bool, true, false, not, _&&_, _||_, cond}
-use Prim.Native.Nat.{ℕ, zero, suc, _+_, _-_, _*_, _^_, _≤_, _<_, zero-le}
+use Prim.Native.Nat.{ℕ, suc, _*_, _^_, _≤_, zero-le}
 use native.Mathlib.Nat.{le-refl, le-trans, le-of-eq, le-of-lt, lt-of-le-of-lt, zero-lt-suc, mul-pos}
 use native.Mathlib.Omega.{arith}
 use borrow.Author.Tests.{le-ltb}
@@ -15,20 +15,20 @@ use lib.Ieee.Exact.{HasValue}
 use lib.Ieee.Scale.{finite}
 use Rattle.numbers.specs.Floats.{floatOf}
 use Rattle.numbers.specs.FloatLaws.{float-back}
-use Rattle.numbers.specs.Whole.{limit, cutOf, highest24, highest24ℤ}
-use Rattle.numbers.specs.WholeLaws.{apart-pp, apart-pn, apart-np, apart-nn, limit-within, limit-near, limit-sum-near, cut-round-within, highest-value, value-exact, value-finite, round-finite}
+use Rattle.numbers.specs.Whole.{cutOf, highest24, highest24ℤ}
+use Rattle.numbers.specs.WholeLaws.{apart-pp, apart-np, limit-within, limit-sum-near, cut-round-within, highest-value, value-exact, value-finite, round-finite}
 use Rattle.blocks.specs.declared.Kept.{Kept}
 use Rattle.blocks.specs.Common.{outOfService, man, actualMode}
 use Rattle.tot.specs.declared.Settings.{Settings}
 use Rattle.tot.specs.declared.State.{State}
-use Rattle.tot.specs.Total.{totalFactor, incrementLimit, totalLimit, incrementOf, negative, wanted, thousandthsOf, sumOf, nextTotal, valueGiven, givenBits}
+use Rattle.tot.specs.Total.{totalFactor, rateFactor, valueLimit, incrementLimit, totalLimit, incrementOf, wanted, thousandthsOf, sumOf, nextTotal, valueGiven, givenBits}
 use Rattle.tot.specs.Tick.{tickAdds, autoTotal, autoTick, manTick, outOfServiceTick, tickBy, tickOf}
 
 -- ---- the limits
 
 pub increment-within : (rate : Float) → natAbs (incrementOf rate) ≤ incrementLimit
 unfolding incrementOf
-increment-within rate = limit-within incrementLimit (cutOf (mul binary32 rate (ofInt binary32 (pos 100))))
+increment-within rate = limit-within incrementLimit (cutOf (mul binary32 rate (ofInt binary32 (pos rateFactor))))
 
 pub sum-within : (total z : ℤ) → natAbs (sumOf total z) ≤ totalLimit
 unfolding sumOf
@@ -36,19 +36,20 @@ sum-within total z = limit-within totalLimit (total +ℤ z)
 
 -- "within ±10^9", as PRESET_TOT and a written TOTAL are
 abbrev pub Writable : Float → Type 0
-Writable value = T (le (ofInt binary32 (negℤ (pos (10 ^ 9)))) value) × T (le value (ofInt binary32 (pos (10 ^ 9))))
+Writable value = T (le (ofInt binary32 (negℤ (pos valueLimit))) value) × T (le value (ofInt binary32 (pos valueLimit)))
 
+-- what `le` of two floats of one sign says: a test of less, or one of equality
 either : (t u : Bool) {X : Type 0} → (T t → X) → (T u → X) → T (t || (u && true)) → X
 either true u f g h = f tt
 either false true f g h = g tt
 either false false f g h = absurd h
 
 -- the constants as floats
-billion : ofInt binary32 (pos (10 ^ 9)) ≡ fin false 1953125 (pos 9)
+billion : ofInt binary32 (pos valueLimit) ≡ fin false 1953125 (pos 9)
 unfolding ofInt
 billion = refl
 
-minus-billion : ofInt binary32 (negℤ (pos (10 ^ 9))) ≡ fin true 1953125 (pos 9)
+minus-billion : ofInt binary32 (negℤ (pos valueLimit)) ≡ fin true 1953125 (pos 9)
 unfolding ofInt
 minus-billion = refl
 
@@ -57,34 +58,34 @@ unfolding ofInt
 thousand = refl
 
 -- the largest such value × 1000, and that it is within the limit
-largest : cutOf (round binary32 false (10 ^ 12) 1) ≡ pos 999999995904
+largest : cutOf (round binary32 false (valueLimit * totalFactor) 1) ≡ pos 999999995904
 unfolding round toSigned
 largest = refl
 
--- a magnitude of at most 10^9, × 1000, is at most 10^12
-scaled : (x d : ℕ) → x * 1 ≤ 10 ^ 9 * d → x * 1000 * 1 ≤ 10 ^ 12 * (d * 1)
+-- a magnitude within the range, × 1000, against the end × 1000
+scaled : (x d : ℕ) → x * 1 ≤ valueLimit * d → x * totalFactor * 1 ≤ valueLimit * totalFactor * (d * 1)
 scaled x d h = omega arith
 
-product : (s : Bool) (m : ℕ) (e : ℤ) → mul binary32 (fin s m e) (fin false 125 (pos 3)) ≡ round binary32 s (m * up e * 1000) (down e * 1)
+product : (s : Bool) (m : ℕ) (e : ℤ) → mul binary32 (fin s m e) (fin false 125 (pos 3)) ≡ round binary32 s (m * up e * totalFactor) (down e * 1)
 unfolding mul
 product true m e = refl
 product false m e = refl
 
-magnitude : (s : Bool) (m : ℕ) (e : ℤ) → m * up e * 1 ≤ 10 ^ 9 * down e → natAbs (thousandthsOf (fin s m e)) ≤ totalLimit
+magnitude : (s : Bool) (m : ℕ) (e : ℤ) → m * up e * 1 ≤ valueLimit * down e → natAbs (thousandthsOf (fin s m e)) ≤ totalLimit
 unfolding thousandthsOf
 magnitude s m e h =
     rw (thousand, product s m e)
-    (le-trans (cut-round-within binary32 s (m * up e * 1000) (down e * 1) (10 ^ 12) 1 999999995904 (mul-pos (down-pos e) (zero-lt-suc 0)) (zero-lt-suc 0) (scaled (m * up e) (down e) h) largest (lit< tt)) (lit≤ tt))
+    (le-trans (cut-round-within binary32 s (m * up e * totalFactor) (down e * 1) (valueLimit * totalFactor) 1 999999995904 (mul-pos (down-pos e) (zero-lt-suc 0)) (zero-lt-suc 0) (scaled (m * up e) (down e) h) largest (lit< tt)) (lit≤ tt))
 
-le-side : (s : Bool) (m : ℕ) (e : ℤ) → T (le (fin true 1953125 (pos 9)) (fin s m e)) → T (le (fin s m e) (fin false 1953125 (pos 9))) → m * up e * 1 ≤ 10 ^ 9 * down e
+le-side : (s : Bool) (m : ℕ) (e : ℤ) → T (le (fin true 1953125 (pos 9)) (fin s m e)) → T (le (fin s m e) (fin false 1953125 (pos 9))) → m * up e * 1 ≤ valueLimit * down e
 unfolding le
 le-side true m e h k =
-    let a = 10 ^ 9 * down e in
+    let a = valueLimit * down e in
     let b = m * up e * 1 in
     either (ltb b a) (eqb a b) (λ t. le-of-lt (ltb→lt b a t)) (λ t. le-of-eq (sym (eqb→eq a b t))) h
 le-side false m e h k =
     let a = m * up e * 1 in
-    let b = 10 ^ 9 * down e in
+    let b = valueLimit * down e in
     either (ltb a b) (eqb a b) (λ t. le-of-lt (ltb→lt a b t)) (λ t. le-of-eq (eqb→eq a b t)) k
 
 within-of : (value : Float) → T (le (fin true 1953125 (pos 9)) value) → T (le value (fin false 1953125 (pos 9))) → natAbs (thousandthsOf value) ≤ totalLimit
@@ -141,9 +142,9 @@ unfolding div
 quotient nan s h v t = absurd v
 quotient (inf u) s h v t = absurd v
 quotient (fin u m e) s h v t =
-    round-finite binary32 (unlike u false) (m * up e * 1) (1000 * down e) h 1 (mul-pos (lit< tt) (down-pos e)) (zero-lt-suc 0) (below (m * up e) (down e) h (v .1)) t
+    round-finite binary32 (unlike u false) (m * up e * 1) (totalFactor * down e) h 1 (mul-pos (lit< tt) (down-pos e)) (zero-lt-suc 0) (below (m * up e) (down e) h (v .1)) t
   where
-    below : (x d h : ℕ) → x * 1 ≡ h * d → x * 1 * 1 ≤ h * (1000 * d)
+    below : (x d h : ℕ) → x * 1 ≡ h * d → x * 1 * 1 ≤ h * (totalFactor * d)
     below x d h e = omega (arith, e)
 
 pub value-given-finite : (total : ℤ) → natAbs total ≤ 2 ^ 63 → T (finite (valueGiven total))

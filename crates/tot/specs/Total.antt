@@ -22,6 +22,10 @@ incrementLimit = 10 ^ 9
 abbrev pub totalLimit : ℕ
 totalLimit = 10 ^ 12
 
+-- TOTAL: "value within ±10^9"; PRESET_TOT: "within ±10^9"
+abbrev pub valueLimit : ℕ
+valueLimit = 10 ^ 9
+
 -- "Increment: rate × 100 cut toward zero, then cut to ±10^9, an infinite product giving that end."
 unfoldable pub incrementOf : Float → ℤ
 incrementOf rate = limit incrementLimit (cutOf (mul binary32 rate (ofInt binary32 (pos rateFactor))))

@@ -267,13 +267,14 @@ pub fn written(st: State, bits: u32, status: u8) -> State
 pub fn warm_start(st: State) -> State
     ensures { λ r. ⌜ r ≡ warmStarted st ⌝ }
 {
+    let new = fresh();
     let out = blocks::held(st.out);
-    let none = blocks::nothing();
+    let rate = new.rate;
     State {
         total: st.total,
         out: out,
-        mode: blocks::OUT_OF_SERVICE,
-        rate: none,
-        operator_status: 0x4c,
+        mode: new.mode,
+        rate: rate,
+        operator_status: new.operator_status,
     }
 }

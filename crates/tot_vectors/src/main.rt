@@ -50,7 +50,7 @@ fn at(total: i64) -> State {
     }
 }
 
-fn settings(target: u8, set_tot: u8, mode_tot: u8, fail_tot: u8, preset: u32) -> Settings {
+fn settings(target: u32, set_tot: u32, mode_tot: u32, fail_tot: u32, preset: u32) -> Settings {
     io::write_all(OUT, b"settings ");
     io::print_hex(OUT, target as u64, 2);
     space();
@@ -100,32 +100,32 @@ fn points() {
     io::write_all(OUT, b"points\n");
     let mut st = tot::fresh();
     let mut s = settings(0x08, 0, 0, 0, 0x00000000);
-    st = step(s, st, false, 0x3c800000, 0x80);
-    st = step(s, st, false, 0xbc800000, 0x80);
-    st = step(s, st, false, 0xbc800000, 0x80);
+    st = step(s, st, false, 0x3c800000, 0x80); // 0.015625
+    st = step(s, st, false, 0xbc800000, 0x80); // -0.015625
+    st = step(s, st, false, 0xbc800000, 0x80); // -0.015625
     st = at(16777216);
-    st = step(s, st, false, 0x3c800000, 0x80);
+    st = step(s, st, false, 0x3c800000, 0x80); // 0.015625
     s = settings(0x10, 0, 0, 0, 0x00000000);
     st = at(16777219);
-    st = step(s, st, false, 0x00000000, 0x00);
+    st = step(s, st, false, 0x00000000, 0x00); // 0
     st = at(16777251);
-    st = step(s, st, false, 0x00000000, 0x00);
+    st = step(s, st, false, 0x00000000, 0x00); // 0
     st = at(-16777219);
-    st = step(s, st, false, 0x00000000, 0x00);
+    st = step(s, st, false, 0x00000000, 0x00); // 0
     st = at(33554435);
-    st = step(s, st, false, 0x00000000, 0x00);
+    st = step(s, st, false, 0x00000000, 0x00); // 0
     st = at(-33554437);
-    st = step(s, st, false, 0x00000000, 0x00);
+    st = step(s, st, false, 0x00000000, 0x00); // 0
     st = at(1);
-    st = step(s, st, false, 0x00000000, 0x00);
+    st = step(s, st, false, 0x00000000, 0x00); // 0
     st = at(-1);
-    st = step(s, st, false, 0x00000000, 0x00);
+    st = step(s, st, false, 0x00000000, 0x00); // 0
     st = at(0);
-    st = step(s, st, false, 0x00000000, 0x00);
+    st = step(s, st, false, 0x00000000, 0x00); // 0
     st = at(1000000000000);
-    st = step(s, st, false, 0x00000000, 0x00);
+    st = step(s, st, false, 0x00000000, 0x00); // 0
     st = at(-1000000000000);
-    st = step(s, st, false, 0x00000000, 0x00);
+    st = step(s, st, false, 0x00000000, 0x00); // 0
 }
 
 // Cutting is toward zero and not down, of the product as it is rounded.
@@ -133,16 +133,16 @@ fn increments() {
     io::write_all(OUT, b"increments\n");
     let mut st = tot::fresh();
     let mut s = settings(0x08, 0, 0, 0, 0x00000000);
-    st = step(s, st, false, 0x3e947ae1, 0x80);
-    st = step(s, st, false, 0xbe947ae1, 0x80);
-    st = step(s, st, false, 0x3ca30553, 0x80);
-    st = step(s, st, false, 0xbca30553, 0x80);
-    st = step(s, st, false, 0x3ba3d70a, 0x80);
-    st = step(s, st, false, 0xbba3d70a, 0x80);
-    st = step(s, st, false, 0x80000000, 0x80);
-    st = step(s, st, false, 0x00000001, 0x80);
-    st = step(s, st, false, 0x3fa00000, 0x80);
-    st = step(s, st, false, 0xbfa00000, 0x80);
+    st = step(s, st, false, 0x3e947ae1, 0x80); // 0.289999992
+    st = step(s, st, false, 0xbe947ae1, 0x80); // -0.289999992
+    st = step(s, st, false, 0x3ca30553, 0x80); // 0.0198999997
+    st = step(s, st, false, 0xbca30553, 0x80); // -0.0198999997
+    st = step(s, st, false, 0x3ba3d70a, 0x80); // 0.00499999989
+    st = step(s, st, false, 0xbba3d70a, 0x80); // -0.00499999989
+    st = step(s, st, false, 0x80000000, 0x80); // -0
+    st = step(s, st, false, 0x00000001, 0x80); // 1.40129846e-45
+    st = step(s, st, false, 0x3fa00000, 0x80); // 1.25
+    st = step(s, st, false, 0xbfa00000, 0x80); // -1.25
 }
 
 // The ends of the increment and of the sum, and totals that no device reaches.
@@ -150,25 +150,25 @@ fn limits() {
     io::write_all(OUT, b"limits\n");
     let mut st = tot::fresh();
     let mut s = settings(0x08, 0, 0, 0, 0x00000000);
-    st = step(s, st, false, 0x4b189680, 0x80);
-    st = step(s, st, false, 0x4b18967f, 0x80);
-    st = step(s, st, false, 0x4b989680, 0x80);
-    st = step(s, st, false, 0xcb989680, 0x80);
-    st = step(s, st, false, 0x7f7fffff, 0x80);
-    st = step(s, st, false, 0xff7fffff, 0x80);
-    st = step(s, st, false, 0xcb189680, 0x80);
+    st = step(s, st, false, 0x4b189680, 0x80); // 10000000
+    st = step(s, st, false, 0x4b18967f, 0x80); // 9999999
+    st = step(s, st, false, 0x4b989680, 0x80); // 20000000
+    st = step(s, st, false, 0xcb989680, 0x80); // -20000000
+    st = step(s, st, false, 0x7f7fffff, 0x80); // 3.40282347e+38
+    st = step(s, st, false, 0xff7fffff, 0x80); // -3.40282347e+38
+    st = step(s, st, false, 0xcb189680, 0x80); // -10000000
     st = at(999999999900);
-    st = step(s, st, false, 0x3f800000, 0x80);
-    st = step(s, st, false, 0x3c23d70a, 0x80);
-    st = step(s, st, false, 0xbca3d70a, 0x80);
+    st = step(s, st, false, 0x3f800000, 0x80); // 1
+    st = step(s, st, false, 0x3c23d70a, 0x80); // 0.00999999978
+    st = step(s, st, false, 0xbca3d70a, 0x80); // -0.0199999996
     st = at(-999999999900);
-    st = step(s, st, false, 0xbf800000, 0x80);
-    st = step(s, st, false, 0xcb189680, 0x80);
-    st = step(s, st, false, 0x3f000000, 0x80);
+    st = step(s, st, false, 0xbf800000, 0x80); // -1
+    st = step(s, st, false, 0xcb189680, 0x80); // -10000000
+    st = step(s, st, false, 0x3f000000, 0x80); // 0.5
     st = at(i64::MAX);
-    st = step(s, st, false, 0x3f800000, 0x80);
+    st = step(s, st, false, 0x3f800000, 0x80); // 1
     st = at(i64::MIN);
-    st = step(s, st, false, 0xbf800000, 0x80);
+    st = step(s, st, false, 0xbf800000, 0x80); // -1
 }
 
 // MODE_TOT drops the sign not wanted, or all; the status stays the input's. A code past the list counts as hold.
@@ -176,20 +176,20 @@ fn signs() {
     io::write_all(OUT, b"signs\n");
     let mut st = tot::fresh();
     let mut s = settings(0x08, 0, 0, 0, 0x00000000);
-    st = step(s, st, false, 0x40000000, 0x83);
-    st = step(s, st, false, 0xc0400000, 0x4e);
+    st = step(s, st, false, 0x40000000, 0x83); // 2
+    st = step(s, st, false, 0xc0400000, 0x4e); // -3
     s = settings(0x08, 0, 1, 0, 0x00000000);
-    st = step(s, st, false, 0x40000000, 0x83);
-    st = step(s, st, false, 0xc0400000, 0x4e);
+    st = step(s, st, false, 0x40000000, 0x83); // 2
+    st = step(s, st, false, 0xc0400000, 0x4e); // -3
     s = settings(0x08, 0, 2, 0, 0x00000000);
-    st = step(s, st, false, 0x40000000, 0x83);
-    st = step(s, st, false, 0xc0400000, 0x4e);
+    st = step(s, st, false, 0x40000000, 0x83); // 2
+    st = step(s, st, false, 0xc0400000, 0x4e); // -3
     s = settings(0x08, 0, 3, 0, 0x00000000);
-    st = step(s, st, false, 0x40000000, 0x83);
-    st = step(s, st, false, 0xc0400000, 0x4e);
+    st = step(s, st, false, 0x40000000, 0x83); // 2
+    st = step(s, st, false, 0xc0400000, 0x4e); // -3
     s = settings(0x08, 0, 7, 0, 0x00000000);
-    st = step(s, st, false, 0x40000000, 0x83);
-    st = step(s, st, false, 0xc0400000, 0x4e);
+    st = step(s, st, false, 0x40000000, 0x83); // 2
+    st = step(s, st, false, 0xc0400000, 0x4e); // -3
 }
 
 // FAIL_TOT run: the Bad status, and the increment of a finite rate.
@@ -197,17 +197,17 @@ fn failures_run() {
     io::write_all(OUT, b"failures run\n");
     let mut st = tot::fresh();
     let mut s = settings(0x08, 0, 0, 0, 0x00000000);
-    st = step(s, st, false, 0x3f800000, 0x0d);
-    st = step(s, st, false, 0x3f800000, 0xc3);
-    st = step(s, st, false, 0xbf800000, 0xff);
-    st = step(s, st, false, 0x7fc00000, 0x80);
-    st = step(s, st, false, 0x7f800000, 0x83);
-    st = step(s, st, false, 0xff800000, 0x80);
-    st = step(s, st, false, 0x7fc00000, 0x0d);
-    st = step(s, st, false, 0x7f800000, 0xe0);
-    st = step(s, st, false, 0x3f800000, 0x40);
-    st = step(s, st, false, 0x7f7fffff, 0x00);
-    st = step(s, st, false, 0xffffffff, 0x80);
+    st = step(s, st, false, 0x3f800000, 0x0d); // 1
+    st = step(s, st, false, 0x3f800000, 0xc3); // 1
+    st = step(s, st, false, 0xbf800000, 0xff); // -1
+    st = step(s, st, false, 0x7fc00000, 0x80); // NaN
+    st = step(s, st, false, 0x7f800000, 0x83); // inf
+    st = step(s, st, false, 0xff800000, 0x80); // -inf
+    st = step(s, st, false, 0x7fc00000, 0x0d); // NaN
+    st = step(s, st, false, 0x7f800000, 0xe0); // inf
+    st = step(s, st, false, 0x3f800000, 0x40); // 1
+    st = step(s, st, false, 0x7f7fffff, 0x00); // 3.40282347e+38
+    st = step(s, st, false, 0xffffffff, 0x80); // NaN
 }
 
 // FAIL_TOT hold: nothing added, 0x40, whatever the cause.
@@ -215,12 +215,12 @@ fn failures_hold() {
     io::write_all(OUT, b"failures hold\n");
     let mut st = at(500);
     let mut s = settings(0x08, 0, 0, 1, 0x00000000);
-    st = step(s, st, false, 0x3f800000, 0x0d);
-    st = step(s, st, false, 0x3f800000, 0xc3);
-    st = step(s, st, false, 0x7fc00000, 0x80);
-    st = step(s, st, false, 0x7f800000, 0x80);
-    st = step(s, st, false, 0x3f800000, 0x80);
-    st = step(s, st, false, 0x3f800000, 0x00);
+    st = step(s, st, false, 0x3f800000, 0x0d); // 1
+    st = step(s, st, false, 0x3f800000, 0xc3); // 1
+    st = step(s, st, false, 0x7fc00000, 0x80); // NaN
+    st = step(s, st, false, 0x7f800000, 0x80); // inf
+    st = step(s, st, false, 0x3f800000, 0x80); // 1
+    st = step(s, st, false, 0x3f800000, 0x00); // 1
 }
 
 // FAIL_TOT memory: the last usable Auto rate by the present MODE_TOT; a code past the list counts as memory.
@@ -228,33 +228,33 @@ fn memory() {
     io::write_all(OUT, b"memory\n");
     let mut st = tot::fresh();
     let mut s = settings(0x08, 0, 0, 2, 0x00000000);
-    st = step(s, st, false, 0x40a00000, 0x00);
-    st = step(s, st, false, 0x7fc00000, 0x80);
-    st = step(s, st, false, 0x40000000, 0x80);
-    st = step(s, st, false, 0x40e00000, 0x0c);
-    st = step(s, st, false, 0x7fc00000, 0x80);
+    st = step(s, st, false, 0x40a00000, 0x00); // 5
+    st = step(s, st, false, 0x7fc00000, 0x80); // NaN
+    st = step(s, st, false, 0x40000000, 0x80); // 2
+    st = step(s, st, false, 0x40e00000, 0x0c); // 7
+    st = step(s, st, false, 0x7fc00000, 0x80); // NaN
     s = settings(0x08, 0, 1, 2, 0x00000000);
-    st = step(s, st, false, 0xc0000000, 0x80);
-    st = step(s, st, false, 0x40e00000, 0xc0);
+    st = step(s, st, false, 0xc0000000, 0x80); // -2
+    st = step(s, st, false, 0x40e00000, 0xc0); // 7
     s = settings(0x08, 0, 0, 2, 0x00000000);
-    st = step(s, st, false, 0x40e00000, 0x00);
+    st = step(s, st, false, 0x40e00000, 0x00); // 7
     s = settings(0x08, 0, 3, 2, 0x00000000);
-    st = step(s, st, false, 0x40400000, 0x50);
-    st = step(s, st, false, 0x40e00000, 0x00);
+    st = step(s, st, false, 0x40400000, 0x50); // 3
+    st = step(s, st, false, 0x40e00000, 0x00); // 7
     s = settings(0x08, 0, 0, 5, 0x00000000);
-    st = step(s, st, false, 0x7f800000, 0x80);
+    st = step(s, st, false, 0x7f800000, 0x80); // inf
     s = settings(0x08, 1, 0, 2, 0x00000000);
-    st = step(s, st, false, 0x40800000, 0x80);
+    st = step(s, st, false, 0x40800000, 0x80); // 4
     s = settings(0x08, 0, 0, 2, 0x00000000);
-    st = step(s, st, false, 0x41100000, 0x00);
+    st = step(s, st, false, 0x41100000, 0x00); // 9
     s = settings(0x10, 0, 0, 2, 0x00000000);
-    st = step(s, st, false, 0x40c00000, 0x80);
+    st = step(s, st, false, 0x40c00000, 0x80); // 6
     s = settings(0x08, 0, 0, 2, 0x00000000);
-    st = step(s, st, false, 0x41100000, 0x00);
-    st = step(s, st, true, 0x41100000, 0x80);
-    st = step(s, st, false, 0x41100000, 0x00);
+    st = step(s, st, false, 0x41100000, 0x00); // 9
+    st = step(s, st, true, 0x41100000, 0x80); // 9
+    st = step(s, st, false, 0x41100000, 0x00); // 9
     st = warm(st);
-    st = step(s, st, false, 0x41100000, 0x00);
+    st = step(s, st, false, 0x41100000, 0x00); // 9
 }
 
 // SET_TOT acts in every Auto tick, usable or not, with the status that run would have given, and in no other mode.
@@ -262,30 +262,30 @@ fn reset_and_preset() {
     io::write_all(OUT, b"reset and preset\n");
     let mut st = at(123456);
     let mut s = settings(0x08, 1, 0, 1, 0x00000000);
-    st = step(s, st, false, 0x3f800000, 0x80);
+    st = step(s, st, false, 0x3f800000, 0x80); // 1
     st = at(123456);
-    st = step(s, st, false, 0x3f800000, 0x0d);
-    st = step(s, st, false, 0x7fc00000, 0x80);
+    st = step(s, st, false, 0x3f800000, 0x0d); // 1
+    st = step(s, st, false, 0x7fc00000, 0x80); // NaN
     s = settings(0x08, 2, 0, 2, 0x3e947ae1);
-    st = step(s, st, false, 0x3f800000, 0x80);
-    st = step(s, st, false, 0x3f800000, 0xc0);
-    st = step(s, st, false, 0x7f800000, 0x80);
+    st = step(s, st, false, 0x3f800000, 0x80); // 1
+    st = step(s, st, false, 0x3f800000, 0xc0); // 1
+    st = step(s, st, false, 0x7f800000, 0x80); // inf
     s = settings(0x08, 2, 3, 0, 0x4e6e6b28);
-    st = step(s, st, false, 0x3f800000, 0x80);
+    st = step(s, st, false, 0x3f800000, 0x80); // 1
     s = settings(0x08, 2, 0, 0, 0xce6e6b28);
-    st = step(s, st, false, 0x3f800000, 0x00);
+    st = step(s, st, false, 0x3f800000, 0x00); // 1
     s = settings(0x08, 2, 0, 0, 0xbaf9096c);
-    st = step(s, st, false, 0x3f800000, 0x80);
+    st = step(s, st, false, 0x3f800000, 0x80); // 1
     s = settings(0x08, 9, 0, 0, 0x3af9096c);
-    st = step(s, st, false, 0x3f800000, 0x80);
+    st = step(s, st, false, 0x3f800000, 0x80); // 1
     s = settings(0x10, 1, 0, 0, 0x00000000);
-    st = step(s, st, false, 0x3f800000, 0x80);
+    st = step(s, st, false, 0x3f800000, 0x80); // 1
     s = settings(0x80, 1, 0, 0, 0x00000000);
-    st = step(s, st, false, 0x3f800000, 0x80);
+    st = step(s, st, false, 0x3f800000, 0x80); // 1
     s = settings(0x08, 1, 0, 0, 0x00000000);
-    st = step(s, st, true, 0x3f800000, 0x80);
+    st = step(s, st, true, 0x3f800000, 0x80); // 1
     s = settings(0x08, 0, 0, 0, 0x00000000);
-    st = step(s, st, false, 0x3f800000, 0x80);
+    st = step(s, st, false, 0x3f800000, 0x80); // 1
 }
 
 // A written TOTAL is set at once and shown by the next tick outside O/S; its status is for Man ticks alone.
@@ -293,25 +293,25 @@ fn operator() {
     io::write_all(OUT, b"operator\n");
     let mut st = tot::fresh();
     let mut s = settings(0x08, 0, 0, 0, 0x00000000);
-    st = step(s, st, false, 0x3f800000, 0x80);
+    st = step(s, st, false, 0x3f800000, 0x80); // 1
     s = settings(0x10, 0, 0, 0, 0x00000000);
-    st = step(s, st, false, 0x3f800000, 0x80);
+    st = step(s, st, false, 0x3f800000, 0x80); // 1
     st = write(st, 0x3e947ae1, 0xa7);
-    st = step(s, st, false, 0x3f800000, 0x00);
-    st = step(s, st, false, 0x7fc00000, 0x80);
+    st = step(s, st, false, 0x3f800000, 0x00); // 1
+    st = step(s, st, false, 0x7fc00000, 0x80); // NaN
     st = write(st, 0xbaf9096c, 0x00);
-    st = step(s, st, true, 0x3f800000, 0x80);
-    st = step(s, st, false, 0x3f800000, 0x80);
+    st = step(s, st, true, 0x3f800000, 0x80); // 1
+    st = step(s, st, false, 0x3f800000, 0x80); // 1
     st = write(st, 0x4e6e6b28, 0xff);
     s = settings(0x80, 0, 0, 0, 0x00000000);
-    st = step(s, st, false, 0x3f800000, 0x80);
+    st = step(s, st, false, 0x3f800000, 0x80); // 1
     s = settings(0x08, 0, 0, 0, 0x00000000);
-    st = step(s, st, false, 0x3f800000, 0x81);
+    st = step(s, st, false, 0x3f800000, 0x81); // 1
     s = settings(0x10, 0, 0, 0, 0x00000000);
-    st = step(s, st, false, 0x3f800000, 0x81);
+    st = step(s, st, false, 0x3f800000, 0x81); // 1
     st = write(st, 0x40000000, 0x11);
     st = warm(st);
-    st = step(s, st, false, 0x3f800000, 0x80);
+    st = step(s, st, false, 0x3f800000, 0x80); // 1
 }
 
 // The fault flag and the target; another target counts as Auto.
@@ -319,17 +319,17 @@ fn modes() {
     io::write_all(OUT, b"modes\n");
     let mut st = tot::fresh();
     let mut s = settings(0x80, 0, 0, 0, 0x00000000);
-    st = step(s, st, false, 0x3f800000, 0x80);
+    st = step(s, st, false, 0x3f800000, 0x80); // 1
     s = settings(0x08, 0, 0, 0, 0x00000000);
-    st = step(s, st, false, 0x3f800000, 0x80);
-    st = step(s, st, true, 0x3f800000, 0x80);
+    st = step(s, st, false, 0x3f800000, 0x80); // 1
+    st = step(s, st, true, 0x3f800000, 0x80); // 1
     s = settings(0x10, 0, 0, 0, 0x00000000);
-    st = step(s, st, true, 0x3f800000, 0x80);
-    st = step(s, st, false, 0x3f800000, 0x80);
+    st = step(s, st, true, 0x3f800000, 0x80); // 1
+    st = step(s, st, false, 0x3f800000, 0x80); // 1
     s = settings(0x02, 0, 0, 0, 0x00000000);
-    st = step(s, st, false, 0x3f800000, 0x80);
+    st = step(s, st, false, 0x3f800000, 0x80); // 1
     s = settings(0x08, 0, 0, 0, 0x00000000);
-    st = step(s, st, false, 0x3f800000, 0x00);
+    st = step(s, st, false, 0x3f800000, 0x00); // 1
 }
 
 fn main() {

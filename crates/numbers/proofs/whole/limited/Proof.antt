@@ -6,14 +6,13 @@ use native.Mathlib.Nat.{le-trans, le-suc}
 use native.Mathlib.Omega.{arith}
 use borrow.Author.Needs.{needs}
 use borrow.Author.Tests.{ltb-true, ltb-false}
-use lib.Dec.{lit<}
 use lib.IntN.{ℤ, pos, negsuc, negℤ, _-ℤ_, +ℤ-idl}
 use lib.Signed.{ltZ, mag}
 use mir.Syntax.{w64}
 use mir.Val.{SFits, toZ, ofZ}
 use mir.ValLaws.{toZ-ofZ}
 use Rattle.numbers.specs.Whole.{limit, bound}
-use Rattle.numbers.specs.WholeLaws.{limit-inside}
+use Rattle.numbers.specs.WholeLaws.{bound-small, limit-inside}
 use Rattle.numbers.proofs.whole.limited.Statement.{statement}
 use Rattle.numbers.proofs.whole.limited.Tie as tie
 
@@ -39,10 +38,6 @@ inside : (b : ℕ) (z : ℤ) → ltZ (pos b) z ≡ false → ltZ z (negℤ (pos 
 inside b (pos a) h k = sym (limit-inside b (pos a) (ltb-false b a h))
 inside zero (negsuc a) h k = absurd (true≢false k)
 inside (suc b) (negsuc a) h k = let l : a ≤ b = ltb-false b a k in sym (limit-inside (suc b) (negsuc a) (omega arith))
-
-bound-small : (n : ℤ) → mag n < 2 ^ 63 → bound n < 2 ^ 63
-bound-small (pos n) h = h
-bound-small (negsuc n) h = lit< tt
 
 neg-small : (b : ℕ) → b < 2 ^ 63 → mag (negℤ (pos b)) < 2 ^ 63
 neg-small zero h = h

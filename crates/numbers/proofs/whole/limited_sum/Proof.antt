@@ -1,20 +1,13 @@
 -- `whole::limited_sum` is right: a limit within an i64 does not see that the sum was brought to an i64's end.
 use mathlib.Core.Path.{_∙_}
-use Prim.Native.Nat.{_^_, _<_}
 use borrow.Author.Needs.{needs}
-use lib.Dec.{lit<}
-use lib.IntN.{ℤ, pos, negsuc, _+ℤ_}
-use lib.Signed.{mag}
+use lib.IntN.{_+ℤ_}
 use mir.Syntax.{w64}
 use mir.ValLaws.{toZ-ofZ}
 use Rattle.numbers.specs.Whole.{bound}
-use Rattle.numbers.specs.WholeLaws.{limit-saturated}
+use Rattle.numbers.specs.WholeLaws.{bound-small, limit-saturated}
 use Rattle.numbers.proofs.whole.limited_sum.Statement.{statement}
 use Rattle.numbers.proofs.whole.limited_sum.Tie as tie
-
-bound-small : (n : ℤ) → mag n < 2 ^ 63 → bound n < 2 ^ 63
-bound-small (pos n) h = h
-bound-small (negsuc n) h = lit< tt
 
 saturated-sum-requires : tie.Need-saturated-sum-requires
 saturated-sum-requires c κs = search needs

@@ -1,5 +1,5 @@
 -- `whole::value_of` is right: `highest` gives the magnitude's float, and of a negative total, whose highest bits are not 0, its sign is turned.
-use mathlib.Core.Path.{_≡_, refl}
+use mathlib.Core.Path.{_≡_, refl, sym}
 use mathlib.Core.Bool.{true, false, true≢false}
 use Prim.Native.Nat.{ℕ, zero, suc, _<_}
 use native.Mathlib.Nat.{zero-lt-suc, lt-irrefl}
@@ -13,7 +13,8 @@ use lib.Ieee.{binary32, neg, ofInt}
 use mir.Syntax.{w64}
 use mir.ValLaws.{toZ-ofZ}
 use Rattle.numbers.specs.Whole.{highest24, highest24ℤ}
-use Rattle.numbers.specs.WholeLaws.{highest-pos, neg-round}
+use Rattle.numbers.specs.WholeLaws.{highest-pos}
+use Rattle.numbers.specs.Order.{round-neg}
 use Rattle.numbers.proofs.whole.value_of.Statement.{statement}
 use Rattle.numbers.proofs.whole.value_of.Tie as tie
 
@@ -21,7 +22,7 @@ use Rattle.numbers.proofs.whole.value_of.Tie as tie
 turned : (n : ℕ) → 0 < n → neg (ofInt binary32 (pos n)) ≡ ofInt binary32 (negℤ (pos n))
 unfolding ofInt
 turned zero h = absurd (lt-irrefl 0 h)
-turned (suc n) h = neg-round binary32 (suc n) 1
+turned (suc n) h = sym (round-neg binary32 (suc n) 1)
 
 below : (z : ℤ) → ltZ z (pos 0) ≡ true → neg (ofInt binary32 (pos (highest24 (natAbs z)))) ≡ ofInt binary32 (highest24ℤ z)
 unfolding highest24ℤ
