@@ -35,7 +35,7 @@ fn show(state: State) {
     text(b" ");
     byte(state.out.status);
     text(b", mode ");
-    byte(state.mode);
+    io::print_hex(STDOUT_FILENO, state.mode as u64, 2);
     text(b"\n");
 }
 
@@ -67,7 +67,7 @@ fn fresh(title: &[u8]) -> Block {
     }
 }
 
-fn target(b: Block, code: u8) -> Block {
+fn target(b: Block, code: u32) -> Block {
     let mut settings = b.settings;
     let state = b.state;
     settings.target = code;
@@ -97,7 +97,7 @@ fn fsafe_time(b: Block, ticks: u32) -> Block {
     Block { settings, state }
 }
 
-fn fsafe_type(b: Block, code: u8) -> Block {
+fn fsafe_type(b: Block, code: u32) -> Block {
     let mut settings = b.settings;
     let state = b.state;
     settings.fsafe_type = code;
@@ -111,7 +111,7 @@ fn fsafe_value(b: Block, value: f32) -> Block {
     Block { settings, state }
 }
 
-fn increase_close(b: Block, code: u8) -> Block {
+fn increase_close(b: Block, code: u32) -> Block {
     let mut settings = b.settings;
     let state = b.state;
     settings.increase_close = code;
