@@ -94,3 +94,40 @@ defaults block number = go (eqb block 0) (eqb block 1) (eqb block 2) (eqb block 
 pub sound-start : Sound start
 unfolding Sound stored latest
 sound-start block number = defaults block number
+
+-- ---- an accepted write
+both : (a b : Bool) → T a → T b → T (a && b)
+both true b s t = t
+both false b s t = s
+
+accepted-sound : (s : Standing) (block a b : ℕ) (e : Entry) → T (isAccepted (groundBy s block a b e)) → T (fits (words a b)) → T (sound e (words a b))
+accepted-sound s block a b NoBlock t f = tt
+accepted-sound s block a b NoParameter t f = tt
+accepted-sound s block a b (Parameter class allowed) t f = go class (eqb (s .lock) 0 && not (eqb block 0)) (allowsOf allowed a b) refl (output allowed && not (eqb (targetIn s block) Rattle.blocks.specs.Common.man)) t
+  where
+    open-test : (x : Bool) → allowsOf allowed a b ≡ x → T x → T (allowsOf allowed a b)
+    open-test x e t = subst T (sym e) t
+    go : (class : Class) (l : Bool) (w : Bool) → allowsOf allowed a b ≡ w → (m : Bool)
+        → T (isAccepted (cond (readOnly class) (Refused Rattle.wire.specs.declared.Refusal.the-variants.ReadOnly) (cond l (Refused Rattle.wire.specs.declared.Refusal.the-variants.Locked) (cond (not w) (Refused Rattle.wire.specs.declared.Refusal.the-variants.WordsNotAllowed) (cond m (Refused Rattle.wire.specs.declared.Refusal.the-variants.NotMan) Accepted)))))
+        → T (sound (Parameter class allowed) (words a b))
+    go R l w e m t = tt
+    go S true w e m t = absurd t
+    go S false true e m t = both (allowsOf allowed a b) (fits (words a b)) (open-test true e tt) f
+    go S false false e m t = absurd t
+    go N true w e m t = absurd t
+    go N false true e m t = both (allowsOf allowed a b) (fits (words a b)) (open-test true e tt) f
+    go N false false e m t = absurd t
+    go D true w e m t = absurd t
+    go D false true e m t = both (allowsOf allowed a b) (fits (words a b)) (open-test true e tt) f
+    go D false false e m t = absurd t
+
+pub sound-write : (h : History Event) (s : Standing) (block number a b : ℕ) → Sound h → T (isAccepted (ground s block number a b)) → T (fits (words a b)) → Sound (h ▷ wrote block number a b)
+unfolding Sound stored latest ground
+sound-write h s block number a b old t f block′ number′ = go (eqb block block′) refl (eqb number number′) refl
+  where
+    same : block ≡ block′ → number ≡ number′ → T (sound (entryOf block′ number′) (words a b))
+    same p q = subst (λ (x : ℕ). T (sound (entryOf x number′) (words a b))) p (subst (λ (x : ℕ). T (sound (entryOf block x) (words a b))) q (accepted-sound s block a b (entryOf block number) t f))
+    go : (p : Bool) → eqb block block′ ≡ p → (q : Bool) → eqb number number′ ≡ q → T (sound (entryOf block′ number′) (Rattle.history.specs.Rules.orDefault (defaultOf block′ number′) (Rattle.history.specs.Past.told (cond (p && q) (some (words a b)) none) (latest (Rattle.history.specs.Rules.wordsTo block′ number′) Rattle.history.specs.Rules.never h))))
+    go true ep true eq = same (eqb-true block block′ ep) (eqb-true number number′ eq)
+    go true ep false eq = old block′ number′
+    go false ep q eq = old block′ number′
