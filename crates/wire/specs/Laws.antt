@@ -53,9 +53,11 @@ number-of-case {A} number a b c d ea eb ec ed n h = at-0 (eqb n 0) refl
     at-2 : (t : Bool) → eqb n 2 ≡ t → (n ≡ 0 → ⊥) → (n ≡ 1 → ⊥) → number (cond t c d) ≡ n
     at-2 true e n0 n1 = ec ∙ sym (eqb-true n 2 e)
     at-2 false e n0 n1 = let n2 = eqb-false n 2 e in ed ∙ omega arith
+
     at-1 : (t : Bool) → eqb n 1 ≡ t → (n ≡ 0 → ⊥) → number (cond t b (cond (eqb n 2) c d)) ≡ n
     at-1 true e n0 = eb ∙ sym (eqb-true n 1 e)
     at-1 false e n0 = at-2 (eqb n 2) refl n0 (eqb-false n 1 e)
+
     at-0 : (t : Bool) → eqb n 0 ≡ t → number (cond t a (cond (eqb n 1) b (cond (eqb n 2) c d))) ≡ n
     at-0 true e = ea ∙ sym (eqb-true n 0 e)
     at-0 false e = at-1 (eqb n 1) refl (eqb-false n 0 e)
@@ -103,6 +105,7 @@ five-of-pair s p small = go (eqb (length s) 5) refl
   where
     q : Pair
     q = record { bits = wordOf (getD s 0 0) (getD s 1 0) (getD s 2 0) (getD s 3 0); status = getD s 4 0 }
+
     go : (t : Bool) → eqb (length s) 5 ≡ t → cond t (Received.Value q) (Received.Refused WrongLength) ≡ Received.Value p → fiveBytes p ≡ s
     go true t e =
         let same : q ≡ p = cc in
