@@ -1,0 +1,3 @@
+-- The definitions that `text`'s contracts cite, and the laws that its callers cite.
+pub mod Place
+pub mod Digits
