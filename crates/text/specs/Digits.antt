@@ -31,7 +31,7 @@ decimalIn (suc k) n = cond (ltb n 10) (digit n ∷ []) (decimalIn k (n / 10) ++ 
 unfoldable pub decimal : ℕ → List ℕ
 decimal = decimalIn 20
 
--- a negative number has the sign `-`
+-- "the total in decimal", `-16777217`: a negative number has the sign `-`
 unfoldable pub signed : ℤ → List ℕ
 signed (pos n) = decimal n
-signed (negsuc n) = 45 ∷ decimal (n + 1)
+signed (negsuc n) = 45 ∷ decimal (suc n)

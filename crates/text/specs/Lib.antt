@@ -1,3 +1,4 @@
 -- The definitions that `text`'s contracts cite, and the laws that its callers cite.
 pub mod Place
 pub mod Digits
+pub mod Laws

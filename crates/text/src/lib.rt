@@ -5,6 +5,7 @@
 ghost use mathlib.Core.Path.{_≡_};
 ghost use Prim.Native.Nat.{_+_, _%_, _≤_, _<_};
 ghost use lib.ListN.{length, drop};
+ghost use lib.IntN.{natAbs};
 ghost use Rattle.text.specs.Place.{placeAfter, bytesPut, replaced};
 ghost use Rattle.text.specs.Digits.{digit as digitByte, hexByte, hexWord, decimal as decimalOf, signed};
 
@@ -117,17 +118,29 @@ pub fn put_decimal(buf: &mut [u8], at: usize, n: u64) -> usize
     put_bytes(buf, at, &text[from..])
 }
 
+// A signed number without its sign.
+fn magnitude(z: i64) -> u64
+    ensures { λ r. ⌜ r ≡ natAbs z ⌝ }
+{
+    if z < 0 {
+        // `!z` is -z - 1, which fits where -z may not.
+        return !z as u64 + 1;
+    }
+    z as u64
+}
+
 // Puts a whole number in decimal, without leading zeros, a negative one after the sign `-`.
 pub fn put_signed(buf: &mut [u8], at: usize, z: i64) -> usize
     ensures { λ r. ⌜ r ≡ placeAfter (now (buf .entry)) at (signed z) ⌝ }
     ensures { λ _. ⌜ now (buf .exit) ≡ bytesPut (now (buf .entry)) at (signed z) ⌝ }
 {
     let mut text = [0u8; 21];
+    let n = magnitude(z);
+    let from = decimal(n, &mut text);
     if z < 0 {
-        let from = decimal((-(z + 1)) as u64 + 1, &mut text) - 1;
-        text[from] = b'-';
-        return put_bytes(buf, at, &text[from..]);
+        let sign = from - 1;
+        text[sign] = b'-';
+        return put_bytes(buf, at, &text[sign..]);
     }
-    let from = decimal(z as u64, &mut text);
     put_bytes(buf, at, &text[from..])
 }

@@ -6,7 +6,7 @@ use native.Mathlib.Omega.{arith}
 use native.Mathlib.Nat.{div-lt-iff-lt-mul, pow-suc}
 use native.Mathlib.Numerals.{add-one}
 use lib.ListN.{length, drop, set, length-set, drop-of-length-le}
-use lib.Seq.{drop-cons, drop-set-lt, getD-set-same}
+use Rattle.text.proofs.Ends.{stored}
 use borrow.Author.Tests.{lt-ltb, le-ltb}
 use Rattle.text.specs.Digits.{digit as digitByte, decimalIn, decimal as decimalOf}
 use denote.Ref.{now}
@@ -29,12 +29,6 @@ more : (left rest : ℕ) → 9 < rest → rest < 10 ^ left → 2 ≤ left
 more zero rest p h = omega arith
 more (suc zero) rest p h = omega arith
 more (suc (suc f)) rest p h = omega arith
-
--- a byte stored in front of those written
-stored : (out : List ℕ) (i d : ℕ) → i < length out → drop i (set out i d) ≡ d ∷ drop (suc i) out
-stored out i d l =
-    drop-cons (set out i d) i 0 (simp length-set l)
-    ∙ rw (getD-set-same out i d 0 l, drop-set-lt (suc i) out i d (omega arith))
 
 -- the last digit of `rest` goes from the digits to come to those written
 step : (left rest : ℕ) (out : List ℕ) → 1 ≤ left → left < length out → 9 < rest → decimalIn (left - 1) (rest / 10) ++ drop (left - 1 + 1) (set out left (digitByte (rest % 10))) ≡ decimalIn left rest ++ drop (left + 1) out

@@ -1,3 +1,6 @@
+-- `text::put_decimal` meets its contract: the text from its first digit on is the number's, and `put_bytes` puts it.
+use mathlib.Core.Path.{_∙_}
+use Rattle.text.proofs.Ends.{to-end}
 use borrow.Author.Needs.{needs}
 use Rattle.text.proofs.put_decimal.Statement.{statement}
 use Rattle.text.proofs.put_decimal.Tie as tie
@@ -36,7 +39,11 @@ same-length c = search needs
 
 -- src/lib.rt:111:1
 returns : tie.Need-returns
-returns c = ?
+returns c = 
+    let d = c .before .before .before .before .before .before .before .decimal in
+    let e = to-end (d .last .1 .0) (d .result) 21 (d .kept .1 .0) ∙ d .ensures .2 in
+    let p = c .before .before .put-bytes .ensures in
+    (rw e at (p .0), rw e at (p .1))
 
 pub put-decimal-spec : {M : Type 1} → statement M
 put-decimal-spec =
