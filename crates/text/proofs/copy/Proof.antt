@@ -8,8 +8,6 @@ use lib.Seq.{paste, paste-zero, paste-suc, take-length}
 use denote.Ref.{now}
 use Rattle.text.proofs.copy.Statement.{statement}
 use Rattle.text.proofs.copy.Tie as tie
-use Rattle.text.proofs.copy.Reads as reads
-use Rattle.text.proofs.copy.Lts as lts
 
 abbrev Inv-loop : tie.InvT-loop
 Inv-loop buf₀ at bytes i₀ buf i = (i ≤ length bytes) × (length buf ≡ length buf₀) × (buf ≡ paste buf₀ at bytes i)
@@ -17,44 +15,35 @@ Inv-loop buf₀ at bytes i₀ buf i = (i ≤ length bytes) × (length buf ≡ le
 abbrev μ-loop : tie.MeasureT-loop
 μ-loop buf₀ at bytes i₀ buf i = length bytes - i
 
--- src/lib.rt:17:5
 loop-holds : tie.Need-loop-holds Inv-loop μ-loop
 loop-holds c = (omega arith, refl, paste-zero (now (c .args .buf)) (c .args .at) (now (c .args .bytes)))
 
--- src/lib.rt:18:23
 shared-slice-read-buf : tie.Need-shared-slice-read-buf Inv-loop μ-loop
 shared-slice-read-buf c = omega arith
 
--- src/lib.rt:18:13
 add-buf : tie.Need-add-buf Inv-loop μ-loop
 add-buf c = omega arith
 
--- src/lib.rt:18:9
 slice-write-buf : tie.Need-slice-write-buf Inv-loop μ-loop
 slice-write-buf c = omega arith
 
--- src/lib.rt:19:9
 add-i : tie.Need-add-i Inv-loop μ-loop
 add-i c = omega arith
 
--- src/lib.rt:17:5
 loop-less : tie.Need-loop-less Inv-loop μ-loop
 loop-less c = omega arith
 
--- src/lib.rt:17:5
 loop-again : tie.Need-loop-again Inv-loop μ-loop
-loop-again c = 
+loop-again c =
     let a = c .before .before .before .args in
     let l = c .before .before .loop in
     (omega arith, simp length-set (l .inv .1), rw (l .inv .2, add-one (l .i)) (paste-suc (now (a .buf)) (a .at) (now (a .bytes)) (l .i) 0 (omega arith) (omega arith)))
 
--- src/lib.rt:12:1
 same-length : tie.Need-same-length Inv-loop μ-loop
 same-length c = c .before .loop .inv .1
 
--- src/lib.rt:12:1
 returns : tie.Need-returns Inv-loop μ-loop
-returns c = 
+returns c =
     let e : c .before .loop .i ≡ length (now (c .before .before .args .bytes)) = omega arith in
     rw (c .before .loop .inv .2, e, take-length)
 

@@ -12,9 +12,6 @@ use Rattle.text.specs.Digits.{digit as digitByte, decimalIn, decimal as 
 use denote.Ref.{now}
 use Rattle.text.proofs.decimal.Statement.{statement}
 use Rattle.text.proofs.decimal.Tie as tie
-use Rattle.text.proofs.decimal.Reads as reads
-use Rattle.text.proofs.decimal.Lts as lts
-use Rattle.text.proofs.digit.Reads as digit-reads
 
 -- a number of more than one digit loses its last place
 fewer : (left rest : ℕ) → 1 ≤ left → rest < 10 ^ left → rest / 10 < 10 ^ (left - 1)
@@ -50,57 +47,45 @@ Inv-loop n out₀ left₀ rest₀ out left rest = (1 ≤ left) × (left ≤ 20) 
 abbrev μ-loop : tie.MeasureT-loop
 μ-loop n out₀ left₀ rest₀ out left rest = left
 
--- src/lib.rt:101:5
 loop-holds : tie.Need-loop-holds Inv-loop μ-loop
 unfolding decimalOf
 loop-holds c = (omega arith, omega arith, c .before .pre, omega arith, rw (drop-of-length-le (now (c .before .args .out)) {i = 21} (omega arith), append-nil))
 
--- src/lib.rt:102:27
 cast-digit : tie.Need-cast-digit Inv-loop μ-loop
 cast-digit c = omega arith
 
--- src/lib.rt:102:21
 digit-requires : tie.Need-digit-requires Inv-loop μ-loop
 digit-requires c κs = omega arith
 
--- src/lib.rt:102:9
 slice-write-out : tie.Need-slice-write-out Inv-loop μ-loop
 slice-write-out c = omega arith
 
--- src/lib.rt:104:9
 sub-left : tie.Need-sub-left Inv-loop μ-loop
 sub-left c = omega arith
 
--- src/lib.rt:101:5
 loop-less : tie.Need-loop-less Inv-loop μ-loop
 loop-less c = omega arith
 
--- src/lib.rt:101:5
 loop-again : tie.Need-loop-again Inv-loop μ-loop
-loop-again c = 
+loop-again c =
     let l = c .before .before .loop in
     let two = more (l .left) (l .rest) (omega arith) (l .inv .3) in
     (omega arith, omega arith, simp length-set (l .inv .2), fewer (l .left) (l .rest) (omega arith) (l .inv .3), rw (c .digit .ensures) (step (l .left) (l .rest) (l .out) (omega arith) (omega arith) (omega arith) ∙ l .inv .4))
 
--- src/lib.rt:106:23
 cast-digit-2 : tie.Need-cast-digit-2 Inv-loop μ-loop
 cast-digit-2 c = omega arith
 
--- src/lib.rt:106:17
 digit-requires-2 : tie.Need-digit-requires-2 Inv-loop μ-loop
 digit-requires-2 c κs = omega arith
 
--- src/lib.rt:106:5
 slice-write-out-2 : tie.Need-slice-write-out-2 Inv-loop μ-loop
 slice-write-out-2 c = omega arith
 
--- src/lib.rt:95:1
 same-length : tie.Need-same-length Inv-loop μ-loop
 same-length c = simp length-set (omega arith)
 
--- src/lib.rt:95:1
 returns : tie.Need-returns Inv-loop μ-loop
-returns c = 
+returns c =
     let l = c .before .before .loop in
     (l .inv .0, omega arith, rw (c .digit2 .ensures) (last (l .left) (l .rest) (l .out) (omega arith) (omega arith) (omega arith) ∙ l .inv .4))
 

@@ -3,22 +3,16 @@ use borrow.Author.Tests.{lt-ltb, le-ltb}
 use borrow.Author.Needs.{needs}
 use Rattle.text.proofs.digit.Statement.{statement}
 use Rattle.text.proofs.digit.Tie as tie
-use Rattle.text.proofs.digit.Reads as reads
-use Rattle.text.proofs.digit.Lts as lts
 
--- src/lib.rt:46:14
 add-result : tie.Need-add-result
 add-result c = search needs
 
--- src/lib.rt:46:30
 add-result-2 : tie.Need-add-result-2
 add-result-2 c = search needs
 
--- src/lib.rt:41:1
 returns : tie.Need-returns
 returns c = rw (c .if1 .taken)
 
--- src/lib.rt:41:1
 returns-2 : tie.Need-returns-2
 returns-2 c = rw (c .if1 .left)
 

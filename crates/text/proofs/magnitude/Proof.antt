@@ -13,8 +13,6 @@ use borrow.Author.Tests.{ltb-true}
 use borrow.Author.Needs.{needs}
 use Rattle.text.proofs.magnitude.Statement.{statement}
 use Rattle.text.proofs.magnitude.Tie as tie
-use Rattle.text.proofs.magnitude.Reads as reads
-use Rattle.text.proofs.magnitude.Lts as lts
 
 -- `!z` of a negative number is one less than its magnitude
 flipped : (z : ℤ) → SFits w64 z → ltZ z (pos 0) ≡ true → (toZ w64 (2 ^ 64 - 1 - ofZ w64 z) ≡ pos (natAbs z - 1)) × (natAbs z - 1 + 1 ≡ natAbs z) × (natAbs z - 1 < 2 ^ 63)
@@ -32,23 +30,18 @@ plain (negsuc n) f t = absurd (let e : _≡_ {A = ℕ} 0 1 = cc in omega arith)
 negative : (c : tie.Then1) → (toZ w64 (2 ^ 64 - 1 - ofZ w64 (c .before .args .z)) ≡ pos (natAbs (c .before .args .z) - 1)) × (natAbs (c .before .args .z) - 1 + 1 ≡ natAbs (c .before .args .z)) × (natAbs (c .before .args .z) - 1 < 2 ^ 63)
 negative c = let f = c .before .fits .z in flipped (c .before .args .z) f (rw (toZ-ofZ w64 (c .before .args .z) f) at (c .if1 .taken))
 
--- src/lib.rt:127:16
 cast-result : tie.Need-cast-result
 cast-result c = let h = negative c in rw (h .0) (tt, omega arith)
 
--- src/lib.rt:127:16
 add-result : tie.Need-add-result
 add-result c = let h = negative c in rw (h .0) (omega arith)
 
--- src/lib.rt:127:9
 returns : tie.Need-returns
 returns c = let h = negative c in rw (h .0) (h .1)
 
--- src/lib.rt:129:5
 cast-result-2 : tie.Need-cast-result-2
 cast-result-2 c = let f = c .before .fits .z in let e = toZ-ofZ w64 (c .before .args .z) f in rw e (plain (c .before .args .z) f (rw e at (c .if1 .left)))
 
--- src/lib.rt:122:1
 returns-2 : tie.Need-returns-2
 returns-2 c = search needs
 

@@ -8,50 +8,39 @@ use denote.Ref.{now}
 use borrow.Author.Needs.{needs}
 use Rattle.text.proofs.put_bytes.Statement.{statement}
 use Rattle.text.proofs.put_bytes.Tie as tie
-use Rattle.text.proofs.put_bytes.Reads as reads
-use Rattle.text.proofs.put_bytes.Lts as lts
-use Rattle.text.proofs.copy.Reads as copy-reads
 
--- src/lib.rt:31:16
 add-result : tie.Need-add-result
 add-result c = search needs
 
--- src/lib.rt:31:9
 returns : tie.Need-returns
 unfolding placeAfter bytesPut
-returns c = 
+returns c =
     let a = c .before .before .before .args in
     let h = lt-leb (a .at + length (now (a .bytes))) (length (now (a .buf))) (omega arith) in
     (rw h, rw h)
 
--- src/lib.rt:34:16
 add-result-2 : tie.Need-add-result-2
 add-result-2 c = search needs
 
--- src/lib.rt:34:9
 returns-2 : tie.Need-returns-2
 unfolding placeAfter bytesPut
-returns-2 c = 
+returns-2 c =
     let a = c .before .before .before .before .args in
     let h = lt-leb (a .at + length (now (a .bytes))) (length (now (a .buf))) (omega arith) in
     (rw h, rw h)
 
--- src/lib.rt:36:5
 copy-requires : tie.Need-copy-requires
 copy-requires c κs = search needs
 
--- src/lib.rt:37:5
 add-result-3 : tie.Need-add-result-3
 add-result-3 c = search needs
 
--- src/lib.rt:24:1
 same-length : tie.Need-same-length
 same-length c = search needs
 
--- src/lib.rt:24:1
 returns-3 : tie.Need-returns-3
 unfolding placeAfter bytesPut
-returns-3 c = 
+returns-3 c =
     let a = c .before .before .before .before .before .before .before .before .args in
     let h = le-leb (a .at + length (now (a .bytes))) (length (now (a .buf))) (omega arith) in
     (rw h, rw (h, c .before .before .copy .ensures))

@@ -11,55 +11,39 @@ use Rattle.text.proofs.Ends.{stored, to-end}
 use borrow.Author.Needs.{needs}
 use Rattle.text.proofs.put_signed.Statement.{statement}
 use Rattle.text.proofs.put_signed.Tie as tie
-use Rattle.text.proofs.put_signed.Reads as reads
-use Rattle.text.proofs.put_signed.Lts as lts
-use Rattle.text.proofs.decimal.Reads as decimal-reads
-use Rattle.text.proofs.magnitude.Reads as magnitude-reads
-use Rattle.text.proofs.put_bytes.Reads as put-bytes-reads
 
--- src/lib.rt:137:9
 magnitude-requires : tie.Need-magnitude-requires
 magnitude-requires c κs = search needs
 
--- src/lib.rt:138:27
 slice-aggregate-decimal : tie.Need-slice-aggregate-decimal
 slice-aggregate-decimal c = search needs
 
--- src/lib.rt:138:9
 decimal-requires : tie.Need-decimal-requires
 decimal-requires c κs = search needs
 
--- src/lib.rt:140:20
 sub-sign : tie.Need-sub-sign
 sub-sign c = search needs
 
--- src/lib.rt:141:9
 array-write-text : tie.Need-array-write-text
 array-write-text c = search needs
 
--- src/lib.rt:142:35
 sub-put-bytes : tie.Need-sub-put-bytes
 sub-put-bytes c = search needs
 
--- src/lib.rt:142:35
 part-put-bytes-start : tie.Need-part-put-bytes-start
 part-put-bytes-start c = search needs
 
--- src/lib.rt:142:35
 part-put-bytes-end : tie.Need-part-put-bytes-end
 part-put-bytes-end c = let d = c .before .before .before .before .decimal in simp length-set (omega arith)
 
--- src/lib.rt:142:9
 put-bytes-requires : tie.Need-put-bytes-requires
 put-bytes-requires c κs = search needs
 
--- src/lib.rt:142:9
 same-length : tie.Need-same-length
 same-length c = search needs
 
--- src/lib.rt:142:9
 returns : tie.Need-returns
-returns c = 
+returns c =
     let a = c .before .before .before .before .before .before .before .before .before .before .before .before .args in
     let d = c .before .before .before .before .before .before .before .before .decimal in
     let sign = d .result - 1 in
@@ -67,41 +51,35 @@ returns c =
     let t = rw r at (c .before .before .before .before .before .before .if1 .taken) in
     let s : suc sign ≡ d .result = omega arith in
     let e : take (21 - sign) (drop sign (set (d .last .1 .0) sign 45)) ≡ signed (a .z) =
-        to-end (set (d .last .1 .0) sign 45) sign 21 (simp length-set (d .kept .1 .0))
-        ∙ stored (d .last .1 .0) sign 45 (omega (arith, d .kept .1 .0))
-        ∙ rw (s, d .ensures .2, c .before .before .before .before .before .before .before .before .before .before .magnitude .ensures, r) (sym (signed-negative (a .z) t)) in
+    to-end (set (d .last .1 .0) sign 45) sign 21 (simp length-set (d .kept .1 .0))
+    ∙ stored (d .last .1 .0) sign 45 (omega (arith, d .kept .1 .0))
+    ∙ rw (s, d .ensures .2, c .before .before .before .before .before .before .before .before .before .before .magnitude .ensures, r) (sym (signed-negative (a .z) t)) in
     let p = c .before .before .put-bytes .ensures in
     (rw e at (p .0), rw e at (p .1))
 
--- src/lib.rt:144:24
 sub-put-bytes-2 : tie.Need-sub-put-bytes-2
 sub-put-bytes-2 c = search needs
 
--- src/lib.rt:144:24
 part-put-bytes-start-2 : tie.Need-part-put-bytes-start-2
 part-put-bytes-start-2 c = search needs
 
--- src/lib.rt:144:24
 part-put-bytes-end-2 : tie.Need-part-put-bytes-end-2
 part-put-bytes-end-2 c = search needs
 
--- src/lib.rt:144:5
 put-bytes-requires-2 : tie.Need-put-bytes-requires-2
 put-bytes-requires-2 c κs = search needs
 
--- src/lib.rt:132:1
 same-length-2 : tie.Need-same-length-2
 same-length-2 c = search needs
 
--- src/lib.rt:132:1
 returns-2 : tie.Need-returns-2
-returns-2 c = 
+returns-2 c =
     let a = c .before .before .before .before .before .before .before .before .before .before .before .before .args in
     let d = c .before .before .before .before .before .before .before .before .decimal in
     let r = toZ-ofZ w64 (a .z) (c .before .before .before .before .before .before .before .before .before .before .before .before .fits .z) in
     let t = rw r at (c .before .before .before .before .before .before .if1 .left) in
     let e : take (21 - d .result) (drop (d .result) (d .last .1 .0)) ≡ signed (a .z) =
-        to-end (d .last .1 .0) (d .result) 21 (d .kept .1 .0) ∙ d .ensures .2 ∙ rw (c .before .before .before .before .before .before .before .before .before .before .magnitude .ensures, r) (sym (signed-plain (a .z) t)) in
+    to-end (d .last .1 .0) (d .result) 21 (d .kept .1 .0) ∙ d .ensures .2 ∙ rw (c .before .before .before .before .before .before .before .before .before .before .magnitude .ensures, r) (sym (signed-plain (a .z) t)) in
     let p = c .before .before .put-bytes2 .ensures in
     (rw e at (p .0), rw e at (p .1))
 

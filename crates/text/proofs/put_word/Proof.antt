@@ -2,58 +2,42 @@
 use borrow.Author.Needs.{needs}
 use Rattle.text.proofs.put_word.Statement.{statement}
 use Rattle.text.proofs.put_word.Tie as tie
-use Rattle.text.proofs.put_word.Reads as reads
-use Rattle.text.proofs.put_word.Lts as lts
-use Rattle.text.proofs.low_digit.Reads as low-digit-reads
-use Rattle.text.proofs.put_bytes.Reads as put-bytes-reads
 
--- src/lib.rt:82:9
 low-digit-requires : tie.Need-low-digit-requires
 low-digit-requires c κs = search needs
 
--- src/lib.rt:83:9
 low-digit-requires-2 : tie.Need-low-digit-requires-2
 low-digit-requires-2 c κs = search needs
 
--- src/lib.rt:84:9
 low-digit-requires-3 : tie.Need-low-digit-requires-3
 low-digit-requires-3 c κs = search needs
 
--- src/lib.rt:85:9
 low-digit-requires-4 : tie.Need-low-digit-requires-4
 low-digit-requires-4 c κs = search needs
 
--- src/lib.rt:86:9
 low-digit-requires-5 : tie.Need-low-digit-requires-5
 low-digit-requires-5 c κs = search needs
 
--- src/lib.rt:87:9
 low-digit-requires-6 : tie.Need-low-digit-requires-6
 low-digit-requires-6 c κs = search needs
 
--- src/lib.rt:88:9
 low-digit-requires-7 : tie.Need-low-digit-requires-7
 low-digit-requires-7 c κs = search needs
 
--- src/lib.rt:89:9
 low-digit-requires-8 : tie.Need-low-digit-requires-8
 low-digit-requires-8 c κs = search needs
 
--- src/lib.rt:91:24
 slice-aggregate-put-bytes : tie.Need-slice-aggregate-put-bytes
 slice-aggregate-put-bytes c = search needs
 
--- src/lib.rt:91:5
 put-bytes-requires : tie.Need-put-bytes-requires
 put-bytes-requires c κs = search needs
 
--- src/lib.rt:68:1
 same-length : tie.Need-same-length
 same-length c = search needs
 
--- src/lib.rt:68:1
 returns : tie.Need-returns
-returns c = 
+returns c =
     let p = c .before .before .put-bytes .ensures in
     (rw (c .before .before .before .before .before .before .before .before .before .before .before .before .low-digit .ensures, c .before .before .before .before .before .before .before .before .before .before .before .low-digit2 .ensures, c .before .before .before .before .before .before .before .before .before .before .low-digit3 .ensures, c .before .before .before .before .before .before .before .before .before .low-digit4 .ensures, c .before .before .before .before .before .before .before .before .low-digit5 .ensures, c .before .before .before .before .before .before .before .low-digit6 .ensures, c .before .before .before .before .before .before .low-digit7 .ensures, c .before .before .before .before .before .low-digit8 .ensures) at (p .0), rw (c .before .before .before .before .before .before .before .before .before .before .before .before .low-digit .ensures, c .before .before .before .before .before .before .before .before .before .before .before .low-digit2 .ensures, c .before .before .before .before .before .before .before .before .before .before .low-digit3 .ensures, c .before .before .before .before .before .before .before .before .before .low-digit4 .ensures, c .before .before .before .before .before .before .before .before .low-digit5 .ensures, c .before .before .before .before .before .before .before .low-digit6 .ensures, c .before .before .before .before .before .before .low-digit7 .ensures, c .before .before .before .before .before .low-digit8 .ensures) at (p .1))
 
