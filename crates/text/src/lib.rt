@@ -7,6 +7,7 @@ ghost use Prim.Native.Nat.{_+_, _%_, _≤_, _<_};
 ghost use lib.ListN.{length, drop};
 ghost use lib.IntN.{natAbs};
 ghost use Rattle.text.specs.Place.{placeAfter, bytesPut, replaced};
+ghost use Rattle.text.specs.Number.{digitValue, digitsNumber, wordNumber, numberIn};
 ghost use Rattle.text.specs.Digits.{digit as digitByte, hexByte, hexWord, decimal as decimalOf, signed};
 
 // Copies all of bytes into buf from at on.
@@ -143,4 +144,89 @@ pub fn put_signed(buf: &mut [u8], at: usize, z: i64) -> usize
         return put_bytes(buf, at, &text[sign..]);
     }
     put_bytes(buf, at, &text[from..])
+}
+
+// What a word stands for.
+pub enum Number {
+    Value(u64),
+    Not,
+}
+
+// The value of a digit of either case, or 16 where the byte is no digit.
+fn value(byte: u8) -> u64
+    ensures { λ r. ⌜ r ≡ digitValue byte ⌝ }
+{
+    if byte < 48 {
+        return 16;
+    }
+    if byte < 58 {
+        return (byte - 48) as u64;
+    }
+    if byte < 65 {
+        return 16;
+    }
+    if byte < 71 {
+        return (byte - 55) as u64;
+    }
+    if byte < 97 {
+        return 16;
+    }
+    if byte < 103 {
+        return (byte - 87) as u64;
+    }
+    16
+}
+
+// The number of one or more digits in a base. The sum is made only where it stays within the limit.
+fn digits_number(digits: &[u8], base: u64, limit: u64) -> Number
+    requires { ⌜ 1 ≤ base ⌝ }
+    ensures { λ r. ⌜ r ≡ digitsNumber base (now (digits .entry)) limit ⌝ }
+{
+    if digits.len() == 0 {
+        return Number::Not;
+    }
+    let mut sum = 0;
+    let mut i = 0;
+    while i < digits.len() {
+        let d = value(digits[i]);
+        if d >= base {
+            return Number::Not;
+        }
+        if d > limit {
+            return Number::Not;
+        }
+        if sum > (limit - d) / base {
+            return Number::Not;
+        }
+        sum = sum * base + d;
+        i += 1;
+    }
+    Number::Value(sum)
+}
+
+// The number that a word stands for.
+fn word_number(word: &[u8], limit: u64) -> Number
+    ensures { λ r. ⌜ r ≡ wordNumber (now (word .entry)) limit ⌝ }
+{
+    if word.len() < 2 {
+        return digits_number(word, 10, limit);
+    }
+    let hexadecimal = (word[0] == b'0') & (word[1] == b'x');
+    if hexadecimal {
+        return digits_number(&word[2..], 16, limit);
+    }
+    digits_number(word, 10, limit)
+}
+
+// The number that the part of s from `from` to `to` stands for, up to a limit.
+pub fn number_in(s: &[u8], from: usize, to: usize, limit: u64) -> Number
+    ensures { λ r. ⌜ r ≡ numberIn (now (s .entry)) from to limit ⌝ }
+{
+    if from > to {
+        return Number::Not;
+    }
+    if to > s.len() {
+        return Number::Not;
+    }
+    word_number(&s[from..to], limit)
 }
