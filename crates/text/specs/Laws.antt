@@ -1,5 +1,5 @@
 -- Laws of the definitions in this folder, for proofs and for callers: a number written is read again. Assumes nothing.
-use Prim.Native.Nat.{ℕ, zero, suc, _+_, _-_, _*_, _/_, _%_, _^_, _≤_, _<_}
+use Prim.Native.Nat.{ℕ, zero, suc, _+_, _*_, _/_, _%_, _^_, _≤_, _<_}
 use native.Mathlib.Nat.{div-add-mod', div-lt-iff-lt-mul, mod-lt, lt-of-lt-of-le, pow-zero, pow-suc}
 use native.Mathlib.Omega.{arith}
 use mathlib.Core.Path.{_≡_, refl, sym, _∙_}

@@ -1,6 +1,6 @@
 -- `text::magnitude` meets its contract: `!z` of a negative number is one less than its magnitude, and a number that is not negative is its magnitude.
 use Prim.Native.Nat.{ℕ, suc, _+_, _-_, _^_, _<_}
-use mathlib.Core.Path.{_≡_, refl}
+use mathlib.Core.Path.{_≡_}
 use mathlib.Core.Bool.{true, false}
 use native.Mathlib.Omega.{arith}
 use lib.IntN.{ℤ, pos, negsuc, natAbs}
