@@ -1,3 +1,4 @@
 pub mod Sound
 pub mod Agrees
 pub mod Telegrams
+pub mod Ticks
