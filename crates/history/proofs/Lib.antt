@@ -2,3 +2,4 @@ pub mod Sound
 pub mod Agrees
 pub mod Telegrams
 pub mod Ticks
+pub mod TickStep

@@ -36,7 +36,7 @@ sound (Parameter N allowed) w = allowsOf allowed (w .first) (w .second) && fits 
 sound (Parameter D allowed) w = allowsOf allowed (w .first) (w .second) && fits w
 sound (Parameter R allowed) w = true
 
-pub Sound : History Event → Type 0
+abbrev pub Sound : History Event → Type 0
 Sound h = (block number : ℕ) → T (sound (entryOf block number) (stored h block number))
 
 -- ---- the defaults
@@ -92,7 +92,7 @@ defaults block number = go (eqb block 0) (eqb block 1) (eqb block 2) (eqb block 
     go false false false false = tt
 
 pub sound-start : Sound start
-unfolding Sound stored latest
+unfolding stored latest
 sound-start block number = defaults block number
 
 -- ---- an accepted write
@@ -122,7 +122,7 @@ accepted-sound s block a b (Parameter class allowed) t f = go class (eqb (s .loc
     go D false false e m t = absurd t
 
 pub sound-write : (h : History Event) (s : Standing) (block number a b : ℕ) → Sound h → T (isAccepted (ground s block number a b)) → T (fits (words a b)) → Sound (h ▷ wrote block number a b)
-unfolding Sound stored latest ground
+unfolding stored latest ground
 sound-write h s block number a b old t f block′ number′ = go (eqb block block′) refl (eqb number number′) refl
   where
     same : block ≡ block′ → number ≡ number′ → T (sound (entryOf block′ number′) (words a b))
