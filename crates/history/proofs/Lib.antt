@@ -3,3 +3,4 @@ pub mod Agrees
 pub mod Telegrams
 pub mod Ticks
 pub mod TickStep
+pub mod ReadBack
