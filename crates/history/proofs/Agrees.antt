@@ -275,6 +275,7 @@ module _ (h : History Event) (block number a b : ℕ) where
     where
       n : ℕ
       n = count (isStaticWrite B) h
+
       go : (p : Bool) → cond p (revAfter (isStatic B number) rev) rev ≡ cond (p && isStatic B number) (n + 1) n % 65536
       go true = ap (revAfter (isStatic B number)) e ∙ rev-step (isStatic B number) n
       go false = e

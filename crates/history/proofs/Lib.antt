@@ -4,3 +4,4 @@ pub mod Telegrams
 pub mod Ticks
 pub mod TickStep
 pub mod ReadBack
+pub mod Theorem

@@ -152,51 +152,114 @@ module _ (d : Device) (h : History Event) (A : Agrees d h) (Q : Sound h) where
 
   ain-read : AllRows (λ n. wordsOf d 1 n ≡ stored h 1 n) Table.ain
   unfolding Table.ain wordsOf ainWords entryOf entryIn ainAt ainBy
-  ain-read =
-      (λ t. absurd t,
-      (λ t. ap (λ (s : AinSettings). code (s .target)) (A .ain) ∙ back 1 5 (Mode false) (Q 1 5),
-      (λ t. absurd t,
-      (λ t. absurd t,
-      (λ t. absurd t,
-      (λ t. ap (λ (s : AinSettings). ends (s .«pv_scale»)) (A .ain) ∙ back 1 11 Ends (Q 1 11),
-      (λ t. ap (λ (s : AinSettings). ends (s .«out_scale»)) (A .ain) ∙ back 1 12 Ends (Q 1 12),
-      (λ t. ap (λ (s : AinSettings). float (s .«pv_ftime»)) (A .ain) ∙ back 1 16 (Within (ofInt binary32 (pos 0)) (ofInt binary32 (pos 3600))) (Q 1 16),
-      (λ t. ap (λ (s : AinSettings). code (s .«fsafe_type»)) (A .ain) ∙ back 1 17 (UpTo 2) (Q 1 17),
-      (λ t. ap (λ (s : AinSettings). float (s .«fsafe_value»)) (A .ain) ∙ back 1 18 Finite (Q 1 18),
-      (λ t. ap (λ (s : AinSettings). float (s .«alarm_hys»)) (A .ain) ∙ back 1 19 AtLeastZero (Q 1 19),
-      (λ t. ap (λ (s : AinSettings). float (s .«hi_hi_lim»)) (A .ain) ∙ back 1 21 (FiniteOr false) (Q 1 21),
-      (λ t. ap (λ (s : AinSettings). float (s .«hi_lim»)) (A .ain) ∙ back 1 23 (FiniteOr false) (Q 1 23),
-      (λ t. ap (λ (s : AinSettings). float (s .«lo_lim»)) (A .ain) ∙ back 1 25 (FiniteOr true) (Q 1 25),
-      (λ t. ap (λ (s : AinSettings). float (s .«lo_lo_lim»)) (A .ain) ∙ back 1 27 (FiniteOr true) (Q 1 27),
-      tt)))))))))))))))
+  ain-read = (
+    λ t. absurd t,
+    (
+      λ t. ap (λ (s : AinSettings). code (s .target)) (A .ain) ∙ back 1 5 (Mode false) (Q 1 5),
+      (
+        λ t. absurd t,
+        (
+          λ t. absurd t,
+          (
+            λ t. absurd t,
+            (
+              λ t. ap (λ (s : AinSettings). ends (s .«pv_scale»)) (A .ain) ∙ back 1 11 Ends (Q 1 11),
+              (
+                λ t. ap (λ (s : AinSettings). ends (s .«out_scale»)) (A .ain) ∙ back 1 12 Ends (Q 1 12),
+                (
+                  λ t. ap (λ (s : AinSettings). float (s .«pv_ftime»)) (A .ain) ∙ back 1 16 (Within (ofInt binary32 (pos 0)) (ofInt binary32 (pos 3600))) (Q 1 16),
+                  (
+                    λ t. ap (λ (s : AinSettings). code (s .«fsafe_type»)) (A .ain) ∙ back 1 17 (UpTo 2) (Q 1 17),
+                    (
+                      λ t. ap (λ (s : AinSettings). float (s .«fsafe_value»)) (A .ain) ∙ back 1 18 Finite (Q 1 18),
+                      (
+                        λ t. ap (λ (s : AinSettings). float (s .«alarm_hys»)) (A .ain) ∙ back 1 19 AtLeastZero (Q 1 19),
+                        (
+                          λ t. ap (λ (s : AinSettings). float (s .«hi_hi_lim»)) (A .ain) ∙ back 1 21 (FiniteOr false) (Q 1 21),
+                          (
+                            λ t. ap (λ (s : AinSettings). float (s .«hi_lim»)) (A .ain) ∙ back 1 23 (FiniteOr false) (Q 1 23),
+                            (
+                              λ t. ap (λ (s : AinSettings). float (s .«lo_lim»)) (A .ain) ∙ back 1 25 (FiniteOr true) (Q 1 25),
+                              (
+                                λ t. ap (λ (s : AinSettings). float (s .«lo_lo_lim»)) (A .ain) ∙ back 1 27 (FiniteOr true) (Q 1 27),
+                                tt,
+                              ),
+                            ),
+                          ),
+                        ),
+                      ),
+                    ),
+                  ),
+                ),
+              ),
+            ),
+          ),
+        ),
+      ),
+    ),
+  )
 
   tot-read : AllRows (λ n. wordsOf d 2 n ≡ stored h 2 n) Table.tot
   unfolding Table.tot wordsOf totWords entryOf entryIn totAt totBy
-  tot-read =
-      (λ t. absurd t,
-      (λ t. ap (λ (s : TotSettings). code (s .target)) (A .tot) ∙ back 2 5 (Mode false) (Q 2 5),
-      (λ t. absurd t,
-      (λ t. absurd t,
-      (λ t. ap (λ (s : TotSettings). code (s .«set_tot»)) (A .tot) ∙ back 2 13 (UpTo 2) (Q 2 13),
-      (λ t. ap (λ (s : TotSettings). code (s .«mode_tot»)) (A .tot) ∙ back 2 14 (UpTo 3) (Q 2 14),
-      (λ t. ap (λ (s : TotSettings). code (s .«fail_tot»)) (A .tot) ∙ back 2 15 (UpTo 2) (Q 2 15),
-      (λ t. ap (λ (s : TotSettings). float (s .«preset_tot»)) (A .tot) ∙ back 2 16 (Within (ofInt binary32 (negsuc 999_999_999)) (ofInt binary32 (pos 1_000_000_000))) (Q 2 16),
-      tt))))))))
+  tot-read = (
+    λ t. absurd t,
+    (
+      λ t. ap (λ (s : TotSettings). code (s .target)) (A .tot) ∙ back 2 5 (Mode false) (Q 2 5),
+      (
+        λ t. absurd t,
+        (
+          λ t. absurd t,
+          (
+            λ t. ap (λ (s : TotSettings). code (s .«set_tot»)) (A .tot) ∙ back 2 13 (UpTo 2) (Q 2 13),
+            (
+              λ t. ap (λ (s : TotSettings). code (s .«mode_tot»)) (A .tot) ∙ back 2 14 (UpTo 3) (Q 2 14),
+              (
+                λ t. ap (λ (s : TotSettings). code (s .«fail_tot»)) (A .tot) ∙ back 2 15 (UpTo 2) (Q 2 15),
+                (
+                  λ t. ap (λ (s : TotSettings). float (s .«preset_tot»)) (A .tot) ∙ back 2 16 (Within (ofInt binary32 (negsuc 999_999_999)) (ofInt binary32 (pos 1_000_000_000))) (Q 2 16),
+                  tt,
+                ),
+              ),
+            ),
+          ),
+        ),
+      ),
+    ),
+  )
 
   ao-read : AllRows (λ n. wordsOf d 3 n ≡ stored h 3 n) Table.ao
   unfolding Table.ao wordsOf aoWords entryOf entryIn aoAt aoBy
-  ao-read =
-      (λ t. absurd t,
-      (λ t. ap (λ (s : AoSettings). code (s .target)) (A .ao) ∙ back 3 5 (Mode true) (Q 3 5),
-      (λ t. absurd t,
-      (λ t. ap (λ (s : AoSettings). ends (s .«pv_scale»)) (A .ao) ∙ back 3 11 Ends (Q 3 11),
-      (λ t. ap (λ (s : AoSettings). code (s .«fsafe_time»)) (A .ao) ∙ back 3 23 (UpTo 65535) (Q 3 23),
-      (λ t. ap (λ (s : AoSettings). code (s .«fsafe_type»)) (A .ao) ∙ back 3 24 (UpTo 2) (Q 3 24),
-      (λ t. ap (λ (s : AoSettings). float (s .«fsafe_value»)) (A .ao) ∙ back 3 25 Finite (Q 3 25),
-      (λ t. ap (λ (s : AoSettings). code (s .«increase_close»)) (A .ao) ∙ back 3 36 (UpTo 1) (Q 3 36),
-      (λ t. absurd t,
-      (λ t. ap (λ (s : AoSettings). ends (s .«out_scale»)) (A .ao) ∙ back 3 38 Ends (Q 3 38),
-      tt))))))))))
+  ao-read = (
+    λ t. absurd t,
+    (
+      λ t. ap (λ (s : AoSettings). code (s .target)) (A .ao) ∙ back 3 5 (Mode true) (Q 3 5),
+      (
+        λ t. absurd t,
+        (
+          λ t. ap (λ (s : AoSettings). ends (s .«pv_scale»)) (A .ao) ∙ back 3 11 Ends (Q 3 11),
+          (
+            λ t. ap (λ (s : AoSettings). code (s .«fsafe_time»)) (A .ao) ∙ back 3 23 (UpTo 65535) (Q 3 23),
+            (
+              λ t. ap (λ (s : AoSettings). code (s .«fsafe_type»)) (A .ao) ∙ back 3 24 (UpTo 2) (Q 3 24),
+              (
+                λ t. ap (λ (s : AoSettings). float (s .«fsafe_value»)) (A .ao) ∙ back 3 25 Finite (Q 3 25),
+                (
+                  λ t. ap (λ (s : AoSettings). code (s .«increase_close»)) (A .ao) ∙ back 3 36 (UpTo 1) (Q 3 36),
+                  (
+                    λ t. absurd t,
+                    (
+                      λ t. ap (λ (s : AoSettings). ends (s .«out_scale»)) (A .ao) ∙ back 3 38 Ends (Q 3 38),
+                      tt,
+                    ),
+                  ),
+                ),
+              ),
+            ),
+          ),
+        ),
+      ),
+    ),
+  )
 
   words-read : (block number : ℕ) → T (storedEntry (entryOf block number)) → wordsOf d block number ≡ stored h block number
   unfolding entryOf
@@ -204,6 +267,7 @@ module _ (d : Device) (h : History Event) (A : Agrees d h) (Q : Sound h) where
     where
       at : (b : ℕ) → eqb block b ≡ true → (wordsOf d b number ≡ stored h b number) → wordsOf d block number ≡ stored h block number
       at b e q = subst (λ (x : ℕ). wordsOf d x number ≡ stored h x number) (sym (borrow.Author.Tests.eqb-true block b e)) q
+
       go : (p : Bool) → eqb block 0 ≡ p → (q : Bool) → eqb block 1 ≡ q → (r : Bool) → eqb block 2 ≡ r → (s : Bool) → eqb block 3 ≡ s
           → T (storedEntry (cond p (entryIn Table.physical number) (cond q (entryIn Table.ain number) (cond r (entryIn Table.tot number) (cond s (entryIn Table.ao number) NoBlock)))))
           → wordsOf d block number ≡ stored h block number
@@ -229,6 +293,7 @@ module _ (d : Device) (h : History Event) (A : Agrees d h) (Q : Sound h) where
     where
       three : (n : ℕ) → 0 < n → n < 4 → (n ≡ 1 → ⊥) → (n ≡ 2 → ⊥) → 3 ≡ n
       three n a b c e = omega arith
+
       go : (p : Bool) → eqb block 1 ≡ p → (q : Bool) → eqb block 2 ≡ q → readOf d block 1 ≡ Read (words (stRev h block) 0)
       go true ep q eq = subst (λ (x : ℕ). readOf d x 1 ≡ Read (words (stRev h x) 0)) (sym (borrow.Author.Tests.eqb-true block 1 ep)) (ap (λ (n : ℕ). Read (words n 0)) (A .ainRev))
       go false ep true eq = subst (λ (x : ℕ). readOf d x 1 ≡ Read (words (stRev h x) 0)) (sym (borrow.Author.Tests.eqb-true block 2 eq)) (ap (λ (n : ℕ). Read (words n 0)) (A .totRev))

@@ -107,6 +107,7 @@ accepted-sound s block a b (Parameter class allowed) t f = go class (eqb (s .loc
   where
     open-test : (x : Bool) → allowsOf allowed a b ≡ x → T x → T (allowsOf allowed a b)
     open-test x e t = subst T (sym e) t
+
     go : (class : Class) (l : Bool) (w : Bool) → allowsOf allowed a b ≡ w → (m : Bool)
         → T (isAccepted (cond (readOnly class) (Refused Rattle.wire.specs.declared.Refusal.the-variants.ReadOnly) (cond l (Refused Rattle.wire.specs.declared.Refusal.the-variants.Locked) (cond (not w) (Refused Rattle.wire.specs.declared.Refusal.the-variants.WordsNotAllowed) (cond m (Refused Rattle.wire.specs.declared.Refusal.the-variants.NotMan) Accepted)))))
         → T (sound (Parameter class allowed) (words a b))
@@ -127,6 +128,7 @@ sound-write h s block number a b old t f block′ number′ = go (eqb block bloc
   where
     same : block ≡ block′ → number ≡ number′ → T (sound (entryOf block′ number′) (words a b))
     same p q = subst (λ (x : ℕ). T (sound (entryOf x number′) (words a b))) p (subst (λ (x : ℕ). T (sound (entryOf block x) (words a b))) q (accepted-sound s block a b (entryOf block number) t f))
+
     go : (p : Bool) → eqb block block′ ≡ p → (q : Bool) → eqb number number′ ≡ q → T (sound (entryOf block′ number′) (Rattle.history.specs.Rules.orDefault (defaultOf block′ number′) (Rattle.history.specs.Past.told (cond (p && q) (some (words a b)) none) (latest (Rattle.history.specs.Rules.wordsTo block′ number′) Rattle.history.specs.Rules.never h))))
     go true ep true eq = same (eqb-true block block′ ep) (eqb-true number number′ eq)
     go true ep false eq = old block′ number′

@@ -18,7 +18,7 @@ use Rattle.ao.specs.declared.Input.{Input as Setpoint}
 use Rattle.ao.specs.declared.State.{State as AoState}
 use Rattle.ao.specs.FailSafe.{usable, initiates, afterTelegram, emptied}
 use Rattle.ao.specs.State.{noTelegrams, started, warmStarted as aoWarmStarted}
-use Rattle.ao.specs.Telegram.{inputAfter, takenOn, receivedOn} 
+use Rattle.ao.specs.Telegram.{inputAfter, takenOn, receivedOn}
 use Rattle.ao.specs.Telegram as Ao
 use Rattle.ao.specs.Laws.{usable-excludes}
 use Rattle.device.specs.declared.Device.{Device}
@@ -86,6 +86,7 @@ module _ (input : ℕ) (h : History Event) (e : Event) (p : Pair) (here : pairOn
     where
       old : Setpoint
       old = inputAt input h
+
       go : (b : Bool) → u ≡ b → (c : Bool) → f ≡ c → inputAt input (h ▷ e) ≡ Rattle.ao.specs.State.inputFrom (cond b (record { some = true; value = floatOf (p .bits); silence = 0; ifs = false }) (cond c (record { some = old .some; value = old .value; silence = old .silence; ifs = true }) (Rattle.ao.specs.State.inputOf old)))
       go true eu c ef = λ i. made ((rw eu at came-is) i) ((rw eu at setpoint-is) i) ((rw eu at silence-is) i) ((no-ifs eu) i)
       go false eu true ef = λ i. made ((rw eu at came-is ∙ and-true (came input h)) i) ((rw eu at setpoint-is) i) ((rw eu at silence-is) i) ((rw ef at ifs-then) i)
@@ -145,8 +146,10 @@ module _ (d : Device) (h : History Event) (A : Agrees d h) (bytes : List ℕ) (l
     where
       second : (n : ℕ) → n < 2 → (n ≡ 0 → ⊥) → 1 ≡ n
       second n a b = omega arith
+
       is : (i : ℕ) → receivedOn (d .ao .state) i (pairOf bytes) .state ≡ takenOn (d .ao .state) i (five bytes)
       is i = ap (λ (r : Received). receivedOn (d .ao .state) i r .state) (five-is bytes l)
+
       go : (b : Bool) → eqb input 0 ≡ b → Agrees (telegramOf d input bytes .device) (h ▷ telegram input bytes)
       go true e = subst (λ (i : ℕ). Agrees (telegramOf d i bytes .device) (h ▷ telegram i bytes)) (sym (eqb-true input 0 e))
           (heard 0 (ap (λ (x : AoState). x .out .bits) (is 0)) (ap (λ (x : AoState). x .sp) (is 0) ∙ taken 0 0 (d .ao .state .sp) refl (A .sp)) (ap (λ (x : AoState). x .«rcas_in») (is 0) ∙ other 0 1 (d .ao .state .«rcas_in») refl (A .rcasIn)))
@@ -160,8 +163,10 @@ telegram-refused d input bytes n = ap with-state (go (ltb input 2) refl (ltb 1 i
   where
     with-state : AoState → Device
     with-state st = record { «write_locking» = d .«write_locking»; ain = d .ain; tot = d .tot; ao = record { settings = d .ao .settings; state = st; «st_rev» = d .ao .«st_rev» } }
+
     clash : 2 ≤ input → input ≤ 1 → ⊥
     clash a b = omega arith
+
     go : (a : Bool) → ltb input 2 ≡ a → (b : Bool) → ltb 1 input ≡ b → (c : Bool) → a && c ≡ false
         → cond b (Ao.refusedWith (d .ao .state) NoSuchInput) (receivedOn (d .ao .state) input (cond c (Received.Value (five bytes)) (Received.Refused WrongLength))) .state ≡ d .ao .state
     go a ea true eb c e = refl

@@ -79,8 +79,10 @@ module _ (a : Alarm) (h : History Event) (fault : Bool) (ain tot : Pair) (ainOut
     where
       r : Bool
       r = rises (a .low) (floatOf (stored h 1 (a .limit) .first)) (floatOf (ainOut .first))
+
       f : Bool
       f = falls (a .low) (floatOf (stored h 1 (a .limit) .first)) (floatOf (stored h 1 19 .first)) (floatOf (ainOut .first))
+
       go : (b stood : Bool) → (not b && r || (stood && not (b || f))) ≡ cond b false (r || (stood && not f))
       go true true = refl
       go true false = refl
@@ -93,6 +95,7 @@ alarms-then h fault ain tot ainOut aoOut order = go (eqb (modeAt h fault 1) outO
   where
     at : (a : Alarm) (b : Bool) → eqb (modeAt h fault 1) outOfService ≡ b → cond b false (alarmStands (a .low) (stands a h) (floatOf (stored h 1 (a .limit) .first)) (floatOf (stored h 1 19 .first)) (floatOf (ainOut .first))) ≡ stands a (h ▷ ticked fault ain tot ainOut aoOut order)
     at a b e = sym (alarm-then a h fault ain tot ainOut aoOut order ∙ ap (λ (x : Bool). cond x false (alarmStands (a .low) (stands a h) (floatOf (stored h 1 (a .limit) .first)) (floatOf (stored h 1 19 .first)) (floatOf (ainOut .first)))) e)
+
     go : (b : Bool) → eqb (modeAt h fault 1) outOfService ≡ b → cond b noAlarms (alarmsOf (ainAt h) (alarmsAt h) (floatOf (ainOut .first))) ≡ alarmsAt (h ▷ ticked fault ain tot ainOut aoOut order)
     go true e = λ i. record { «hi_hi» = at hiHi true e i; hi = at hi true e i; lo = at lo true e i; «lo_lo» = at loLo true e i }
     go false e = λ i. record { «hi_hi» = at hiHi false e i; hi = at hi false e i; lo = at lo false e i; «lo_lo» = at loLo false e i }
@@ -243,6 +246,7 @@ module _ (d : Device) (h : History Event) (A : Agrees d h) (S : Sound h) (fault 
       where
         sp-then : Ao.tickedWith (d .ao .state) (modeAt h fault 3) (Ao.givenIn (aoAt h) (d .ao .state) (modeAt h fault 3)) .state .sp ≡ inputAt 0 after
         sp-then = unfold Ao.tickedWith in (ap Ao.inputAfterTick (A .sp) ∙ input-then 0 h fault ain tot ainOut aoOut order)
+
         rcas-then : Ao.tickedWith (d .ao .state) (modeAt h fault 3) (Ao.givenIn (aoAt h) (d .ao .state) (modeAt h fault 3)) .state .«rcas_in» ≡ inputAt 1 after
         rcas-then = unfold Ao.tickedWith in (ap Ao.inputAfterTick (A .rcasIn) ∙ input-then 1 h fault ain tot ainOut aoOut order)
 

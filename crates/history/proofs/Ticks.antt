@@ -51,9 +51,11 @@ ao-target r a b t = first r (either (eqb a outOfService || eqb a man || eqb a au
     third : T (eqb a outOfService) ⊎ T (eqb a man) → IsMode a
     third (inl x) = inl (eqb→eq a outOfService x)
     third (inr x) = inr (inl (eqb→eq a man x))
+
     second : T (eqb a outOfService || eqb a man) ⊎ T (eqb a auto) → IsMode a
     second (inl x) = third (either (eqb a outOfService) (eqb a man) x)
     second (inr x) = inr (inr (eqb→eq a auto x))
+
     first : (r : Bool) → T (eqb a outOfService || eqb a man || eqb a auto) ⊎ T (r && eqb a rcas) → IsAoMode a
     first r (inl x) = inl (second (either (eqb a outOfService || eqb a man) (eqb a auto) x))
     first true (inr x) = inr (eqb→eq a rcas x)
@@ -116,6 +118,7 @@ module _ (s : AinSettings) (st : AinState) (bits status : ℕ) where
     where
       after : (p q : Bool) → AinState
       after p q = cond p (Ain.outOfServiceTick st) (cond q (Ain.manTick s st) (Ain.autoTick s st m bits status))
+
       go : (p q : Bool) → after p q .alarms ≡ cond p noAlarms (alarmsOf s (st .alarms) (floatOf (after p q .out .bits)))
       go true q = refl
       go false true = refl
@@ -139,6 +142,7 @@ module _ (s : TotSettings) (st : TotState) (bits status : ℕ) where
     where
       two : (n : ℕ) → n ≤ 2 → (n ≡ 0 → ⊥) → (n ≡ 1 → ⊥) → n ≡ 2
       two n h a b = omega arith
+
       go : (p : Bool) → eqb n 0 ≡ p → (q : Bool) → eqb n 1 ≡ q → (n ≡ 0) ⊎ ((n ≡ 1) ⊎ (n ≡ 2))
       go true e q f = inl (borrow.Author.Tests.eqb-true n 0 e)
       go false e true f = inr (inl (borrow.Author.Tests.eqb-true n 1 f))
