@@ -5,3 +5,4 @@ pub mod Ticks
 pub mod TickStep
 pub mod ReadBack
 pub mod Theorem
+pub mod PointsProof

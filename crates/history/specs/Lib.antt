@@ -2,3 +2,4 @@ pub mod Past
 pub mod Calls
 pub mod Rules
 pub mod Claim
+pub mod Points

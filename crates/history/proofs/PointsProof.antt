@@ -1,0 +1,75 @@
+-- Points A to H compute; point I goes by the law that n further static writes add n to ST_REV, modulo 65,536. Assumes nothing.
+use Prim.Native.Nat.{ℕ, zero, suc, _+_, _%_}
+use native.Mathlib.Omega.{arith}
+use mathlib.Core.Path.{_≡_, refl, sym, ap, _∙_, subst}
+use mathlib.Core.Bool.{Bool, true, false, not, _&&_, _||_, cond}
+use lib.Dec.{eqb}
+use lib.Ieee.{ofInt, ofBits, toBits, add, sub, mul, div, lt, le, eq, ne, toSigned, neg}
+use Rattle.numbers.specs.Whole as Whole
+use Rattle.scaling.specs.Scaling.{fractionOf, atFraction, allowedScale}
+use Rattle.wire.specs.Bytes.{pairOf}
+use Rattle.wire.specs.declared.Answer.the-variants.{Accepted}
+use Rattle.blocks.specs.Common.{actualMode, inputStatus}
+use Rattle.ain.specs.Scaling.{scaledOf, filtered}
+use Rattle.ain.specs.Alarm.{alarmStands, rises, falls, alarmsOf, alarmStatus}
+use Rattle.ain.specs.Tick as Ain
+use Rattle.tot.specs.Total.{incrementOf, valueGiven}
+use Rattle.ao.specs.FailSafe.{classOf, usable, initiates, failSafeActs}
+use Rattle.parameters.specs.Table as Table
+use Rattle.parameters.specs.Words.{allowsOf}
+use Rattle.parameters.specs.Refused.{ground}
+use Rattle.device.specs.Stored.{storedIn, ainWritten, ainSettings}
+use Rattle.device.specs.Factory.{factoryDevice, ainBy, totBy, aoBy}
+use Rattle.device.specs.Calls.{writeOf, tickOf}
+use Rattle.history.specs.Past.{History, start, _▷_, count, countSince, since, latest}
+use Rattle.history.specs.Calls.{after, reachedFrom, reached, Event, wrote}
+use Rattle.history.specs.Rules.{stored, standing, accepted, isMet, isStaticWrite, stRev, came, silence, ifs, isFailSafe, isUsableOn, isIfsOn}
+use Rattle.history.specs.Points.{again, Points}
+
+-- ---- ST_REV
+
+again-counts : (p : Event → Bool) (e : Event) (h : History Event) (n : ℕ) → p e ≡ true → count p (again n e h) ≡ count p h + n
+unfolding again count
+again-counts p e h zero t = omega arith
+again-counts p e h (suc n) t = rw t (ap (λ (x : ℕ). x + 1) (again-counts p e h n t) ∙ next (count p h) n)
+  where
+    next : (c n : ℕ) → c + n + 1 ≡ c + suc n
+    next c n = omega arith
+
+-- n further static writes to a block add n, modulo 65,536
+pub rev-law : (block : ℕ) (e : Event) (h : History Event) (n : ℕ) → isStaticWrite block e ≡ true → stRev (again n e h) block ≡ (count (isStaticWrite block) h + n) % 65536
+unfolding stRev
+rev-law block e h n t = ap (λ (x : ℕ). x % 65536) (again-counts (isStaticWrite block) e h n t)
+
+-- writes of FSAFE_TYPE leave the lock, and so each is accepted
+abbrev e17 : Event
+e17 = wrote 1 17 1 0
+
+lock-stands : (n : ℕ) → stored (again n e17 start) 0 18 .first ≡ 2457
+unfolding again stored latest Table.defaultOf Table.rowsOf Table.physical Table.defaultIn
+lock-stands zero = refl
+lock-stands (suc n) = lock-stands n
+
+met : (n : ℕ) → isMet (again n e17 start) e17 ≡ true
+unfolding ground standing Table.entryOf Table.entryIn Table.ain allowsOf
+met n = rw (lock-stands n)
+
+all-met : (n : ℕ) → accepted (again n e17 start) ≡ again n e17 start
+unfolding again accepted
+all-met zero = refl
+all-met (suc n) = rw (all-met n, met n)
+
+-- ---- the points
+
+pub points : Points
+points = record {
+  a = (refl, refl, refl);
+  b = λ tot. unfold reached reachedFrom after writeOf ground Table.entryOf Table.entryIn Table.ain allowsOf allowedScale storedIn ainWritten ainSettings factoryDevice ainBy totBy aoBy Table.defaultOf Table.defaultIn Table.rowsOf Table.physical Table.tot Table.ao tickOf Ain.tickOf Ain.tickBy Ain.autoTick Ain.autoBy Ain.inputOf Ain.scaledValue Ain.calculated Ain.usableTick actualMode inputStatus scaledOf filtered fractionOf atFraction alarmsOf alarmStands rises falls alarmStatus ofInt ofBits toBits add sub mul div lt le eq ne neg in refl;
+  c = unfold filtered scaledOf fractionOf atFraction ofInt ofBits add sub mul div eq in refl;
+  d = unfold alarmStands rises falls ofInt ofBits sub lt le in (refl, refl, refl);
+  e = unfold incrementOf Whole.limit ofInt ofBits mul toSigned in refl;
+  f = unfold incrementOf Whole.limit ofInt ofBits mul toSigned in refl;
+  g = unfold valueGiven Whole.highest24ℤ Whole.highestBits ofInt div lib.Ieee.size in refl;
+  h = λ fault₁ fault₂ fault₃ ain₁ ain₂ ain₃ tot₁ tot₂ tot₃ w₁ w₂ w₃ x₁ x₂ x₃ o₁ o₂ o₃. unfold isFailSafe failSafeActs came since silence countSince ifs isUsableOn isIfsOn usable initiates classOf pairOf stored latest ofBits in (refl, refl, refl, refl);
+  i = (all-met 65536, rev-law 1 e17 start 65536 (unfold Table.isStatic Table.entryOf Table.entryIn Table.ain in refl) ∙ unfold count in refl);
+}

@@ -1,0 +1,57 @@
+-- Paper 01's "Points on the curve", A to I, over the rules themselves. Assumes nothing.
+use Prim.Native.Nat.{ℕ, zero, suc, _+_, _%_}
+use mathlib.Core.Path.{_≡_}
+use mathlib.Core.Bool.{Bool, true, false}
+use mathlib.Core.List.{List, [], _∷_}
+use lib.IntN.{ℤ, pos, negsuc}
+use lib.Ieee.{Float, binary32, ofInt, div}
+use Rattle.numbers.specs.Floats.{floatOf}
+use Rattle.scaling.specs.declared.Scale.{Scale}
+use Rattle.wire.specs.declared.Pair.{Pair}
+use Rattle.wire.specs.Status.{qualityOf, subStatusOf, limitsOf}
+use Rattle.wire.specs.Bytes.{fiveBytes}
+use Rattle.blocks.specs.Common.{kept}
+use Rattle.ain.specs.Scaling.{scaledOf, filtered}
+use Rattle.ain.specs.Alarm.{alarmStands}
+use Rattle.tot.specs.Total.{incrementOf, valueGiven}
+use Rattle.ao.specs.declared.Order.{Order}
+use Rattle.parameters.specs.declared.Words.{Words}
+use Rattle.history.specs.Past.{History, start, _▷_}
+use Rattle.history.specs.Calls.{Call, tick, write, reached, Event, ticked, telegram, wrote}
+use Rattle.history.specs.Rules.{isFailSafe, accepted, stRev}
+
+-- a whole number as a float
+abbrev whole : ℕ → Float
+whole n = ofInt binary32 (pos n)
+
+-- an event n times more
+unfoldable pub again : ℕ → Event → History Event → History Event
+again zero e h = h
+again (suc n) e h = again n e h ▷ e
+
+-- a usable telegram of value 50 on SP, with FSAFE_TIME 2
+abbrev setpoint50 : History Event
+setpoint50 = start ▷ wrote 3 23 2 0 ▷ telegram 0 (0x42 ∷ 0x48 ∷ 0 ∷ 0 ∷ 0x80 ∷ [])
+
+pub record Points : Type 0 where
+  -- "A 0x4E is quality 1, sub-status 3, limit 2."
+  pub a : (qualityOf 0x4e ≡ 1) × (subStatusOf 0x4e ≡ 3) × (limitsOf 0x4e ≡ 2)
+  -- "B PV_SCALE 4, 20, input 12, 0x80: bytes 42 48 00 00 80."
+  pub b : (tot : Pair) → fiveBytes (reached (write 1 11 0x4080_0000 0x41a0_0000 ∷ tick false (record { bits = 0x4140_0000; status = 0x80 }) tot ∷ []) .ain .state .out) ≡ 0x42 ∷ 0x48 ∷ 0x00 ∷ 0x00 ∷ 0x80 ∷ []
+  -- "C both scales 0, 64, PV_FTIME 1.5, PV 0, input 32: PV 2."
+  pub c : filtered (floatOf 0x3fc0_0000) (kept (whole 0)) (scaledOf (record { low = whole 0; high = whole 64 }) (record { low = whole 0; high = whole 64 }) (whole 32)) ≡ whole 2
+  -- "D HI_LIM 80: 80 raises, 79.5 keeps, 79.25 clears."
+  pub d : (alarmStands false false (whole 80) (floatOf 0x3f00_0000) (whole 80) ≡ true) × (alarmStands false true (whole 80) (floatOf 0x3f00_0000) (floatOf 0x429f_0000) ≡ true) × (alarmStands false true (whole 80) (floatOf 0x3f00_0000) (floatOf 0x429e_8000) ≡ false)
+  -- "E rate 0.015625 adds 1. F −0.015625 adds −1."
+  pub e : incrementOf (floatOf 0x3c80_0000) ≡ pos 1
+  pub f : incrementOf (floatOf 0xbc80_0000) ≡ negsuc 0
+  -- "G total 16,777,217 is given as 16,777,216 / 1000."
+  pub g : valueGiven (pos 16_777_217) ≡ div binary32 (whole 16_777_216) (whole 1000)
+  -- "H FSAFE_TIME 2: after a usable telegram ticks 1 to 3 follow it, tick 4 is fail-safe.", whatever else the ticks carry
+  pub h : (fault₁ fault₂ fault₃ : Bool) (ain₁ ain₂ ain₃ tot₁ tot₂ tot₃ : Pair) (w₁ w₂ w₃ x₁ x₂ x₃ : Words) (o₁ o₂ o₃ : Order)
+      → (isFailSafe 0 setpoint50 ≡ false)
+      × (isFailSafe 0 (setpoint50 ▷ ticked fault₁ ain₁ tot₁ w₁ x₁ o₁) ≡ false)
+      × (isFailSafe 0 (setpoint50 ▷ ticked fault₁ ain₁ tot₁ w₁ x₁ o₁ ▷ ticked fault₂ ain₂ tot₂ w₂ x₂ o₂) ≡ false)
+      × (isFailSafe 0 (setpoint50 ▷ ticked fault₁ ain₁ tot₁ w₁ x₁ o₁ ▷ ticked fault₂ ain₂ tot₂ w₂ x₂ o₂ ▷ ticked fault₃ ain₃ tot₃ w₃ x₃ o₃) ≡ true)
+  -- "I 65,536 equal accepted S writes: ST_REV 0.": they are accepted, and are counted so
+  pub i : (accepted (again 65536 (wrote 1 17 1 0) start) ≡ again 65536 (wrote 1 17 1 0) start) × (stRev (again 65536 (wrote 1 17 1 0) start) 1 ≡ 0)
