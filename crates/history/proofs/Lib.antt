@@ -6,3 +6,4 @@ pub mod TickStep
 pub mod ReadBack
 pub mod Theorem
 pub mod PointsProof
+pub mod Run

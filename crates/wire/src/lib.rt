@@ -111,7 +111,7 @@ pub fn put(buf: &mut [u8], at: usize, pair: Pair) -> Answer
 }
 
 // The word of four bytes, highest byte first.
-fn word(a: u8, b: u8, c: u8, d: u8) -> u32
+pub fn word(a: u8, b: u8, c: u8, d: u8) -> u32
     ensures { λ r. ⌜ r ≡ wordOf a b c d ⌝ }
 {
     a as u32 * 0x100_0000 + b as u32 * 0x1_0000 + c as u32 * 0x100 + d as u32
