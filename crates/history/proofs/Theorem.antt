@@ -1,17 +1,22 @@
 -- The claim holds of every list of calls: a device that agrees with the rules agrees with them after each call, and one induction over the list. Assumes nothing.
-use Prim.Native.Nat.{ℕ, _<_, _^_}
+use Prim.Native.Nat.{ℕ, _<_, _≤_, _^_}
+use native.Mathlib.Omega.{arith}
 use mathlib.Core.Path.{_≡_, refl, sym, ap, _∙_, subst}
 use mathlib.Core.Bool.{Bool, true, false, not, _&&_, _||_, cond, true≢false}
 use mathlib.Core.List.{List, [], _∷_}
 use lib.Dec.{T, eqb, ltb, ltb→lt}
-use lib.ListN.{length}
-use borrow.Author.Tests.{eqb-true}
+use lib.ListN.{length, getD}
+use borrow.Author.Tests.{eqb-true, ltb-true, ltb-false}
 use Rattle.wire.specs.declared.Pair.{Pair}
+use Rattle.wire.specs.Bytes.{pairOf, wordOf}
+use Rattle.wire.specs.declared.Received.{Received}
+use Rattle.wire.specs.declared.Refusal.the-variants.{NoSuchInput, WrongLength}
 use Rattle.wire.specs.declared.Answer.{Answer}
 use Rattle.wire.specs.declared.Answer.the-variants.{Accepted, Refused}
 use Rattle.ain.specs.declared.Settings.{Settings as AinSettings}
 use Rattle.tot.specs.declared.Settings.{Settings as TotSettings}
 use Rattle.ao.specs.declared.Settings.{Settings as AoSettings}
+use Rattle.ao.specs.Telegram as Ao
 use Rattle.parameters.specs.declared.Standing.{Standing}
 use Rattle.parameters.specs.declared.Entry.the-variants.{NoParameter, Parameter}
 use Rattle.parameters.specs.declared.Class.the-variants.{N}
@@ -28,7 +33,7 @@ use Rattle.history.specs.Past.{History, start, _▷_, latest, Each}
 use Rattle.history.specs.Calls.{Call, tick, write, warmStart, Event, ticked, wrote, warmed, fitting, allFit, after, event, reachedFrom, traceFrom, reached, trace}
 use Rattle.history.specs.Calls as Calls
 use Rattle.history.specs.Rules.{stored, standing, isAccepted, isMet, accepted, ainAt, totAt, aoAt}
-use Rattle.history.specs.Claim.{Tick, Claim}
+use Rattle.history.specs.Claim.{Tick, accepts, Claim}
 use Rattle.history.proofs.Sound.{Sound, sound-start, sound-write}
 use Rattle.history.proofs.Agrees.{Agrees, agrees-start, agrees-wrote}
 use Rattle.history.proofs.Telegrams.{agrees-telegram, telegram-refused, agrees-warm}
@@ -130,6 +135,36 @@ reached-holds : (cs : List Call) → T (allFit cs) → Holds (reached cs) (accep
 unfolding reached trace
 reached-holds cs fit = run cs factoryDevice start fit start-holds
 
+-- ---- acceptance
+
+write-answer : (d : Device) (block number a b : ℕ) (x : Answer) → isAccepted (writeBy d block number a b x .answer) ≡ isAccepted x
+write-answer d block number a b Accepted = refl
+write-answer d block number a b (Refused r) = refl
+
+telegram-answer : (d : Device) (input : ℕ) (bytes : List ℕ) → isAccepted (telegramOf d input bytes .answer) ≡ ltb input 2 && eqb (length bytes) 5
+unfolding telegramOf Ao.telegramOf pairOf
+telegram-answer d input bytes = go (ltb 1 input) refl (ltb input 2) refl (eqb (length bytes) 5)
+  where
+    big : 1 < input → input < 2 → ⊥
+    big a b = omega arith
+    small : input ≤ 1 → 2 ≤ input → ⊥
+    small a b = omega arith
+    go : (p : Bool) → ltb 1 input ≡ p → (q : Bool) → ltb input 2 ≡ q → (r : Bool)
+        → isAccepted (cond p (Ao.refusedWith (d .ao .state) NoSuchInput) (Ao.receivedOn (d .ao .state) input (cond r (Received.Value (record { bits = wordOf (getD bytes 0 0) (getD bytes 1 0) (getD bytes 2 0) (getD bytes 3 0); status = getD bytes 4 0 })) (Received.Refused WrongLength))) .answer) ≡ q && r
+    go true ep true eq r = absurd (big (ltb-true 1 input ep) (ltb-true input 2 eq))
+    go true ep false eq r = refl
+    go false ep true eq true = refl
+    go false ep true eq false = refl
+    go false ep false eq r = absurd (small (ltb-false 1 input ep) (ltb-false input 2 eq))
+
+accepts-same : (d : Device) (h : History Event) → Agrees d h → (c : Call) → accepts d c ≡ isMet h (event d c)
+unfolding event writeOf
+accepts-same d h A (tick fault ain tot) = refl
+accepts-same d h A (Call.telegram input bytes) = telegram-answer d input bytes
+accepts-same d h A (write block number a b) =
+    write-answer d block number a b (ground (standingOf d) block number a b) ∙ ap (λ (s : Standing). isAccepted (ground s block number a b)) (standing-same d h A)
+accepts-same d h A warmStart = refl
+
 -- Demand 3: of every list of calls whose words are of 32 bits.
 pub demand-3 : (calls : List Call) → T (allFit calls) → Claim calls
 demand-3 calls fit =
@@ -141,4 +176,5 @@ demand-3 calls fit =
       alarms = alarms-read (reached calls) h (H .agrees) (H .sound);
       total = H .agrees .total;
       ticks = H .ticks;
+      acceptance = accepts-same (reached calls) h (H .agrees);
     }

@@ -16,11 +16,13 @@ use Rattle.parameters.specs.declared.Entry.the-variants.{NoBlock, NoParameter, 
 use Rattle.parameters.specs.declared.Class.the-variants.{S, N, D, R}
 use Rattle.parameters.specs.Table.{words, entryOf}
 use Rattle.parameters.specs.Refused.{output}
+use Rattle.device.specs.declared.Device.{Device}
 use Rattle.device.specs.declared.Reading.the-variants.{Read}
 use Rattle.device.specs.Read.{readOf}
+use Rattle.device.specs.Calls.{telegramOf, writeOf}
 use Rattle.history.specs.Past.{History, Each}
-use Rattle.history.specs.Calls.{Call, Event, ticked, telegram, wrote, warmed, reached, trace}
-use Rattle.history.specs.Rules.{accepted, stored, stRev, modeAt, ainAt, filterValue, alarmSum, total, gives, inputIn}
+use Rattle.history.specs.Calls.{Call, tick, write, warmStart, Event, ticked, telegram, wrote, warmed, event, reached, trace}
+use Rattle.history.specs.Rules.{isAccepted, isMet, accepted, stored, stRev, modeAt, ainAt, filterValue, alarmSum, total, gives, inputIn}
 
 -- "A stored parameter (S or N, but not TOTAL)"
 abbrev pub storedEntry : Entry → Bool
@@ -50,6 +52,13 @@ Tick h (telegram input bytes) = Unit
 Tick h (wrote block number a b) = Unit
 Tick h warmed = Unit
 
+-- whether a device answers a call as accepted; ticks and warm starts are never refused
+abbrev pub accepts : Device → Call → Bool
+accepts d (tick fault ain tot) = true
+accepts d (Call.telegram input bytes) = isAccepted (telegramOf d input bytes .answer)
+accepts d (write block number a b) = isAccepted (writeOf d block number a b .answer)
+accepts d warmStart = true
+
 -- after the list: stored parameters, ST_REVs and alarms as reads give them, and the device's own total; and each tick of the list
 pub record Claim (calls : List Call) : Type 0 where
   pub parameters : (block number : ℕ) → T (storedEntry (entryOf block number)) → readOf (reached calls) block number ≡ Read (stored (accepted (trace calls)) block number)
@@ -57,3 +66,5 @@ pub record Claim (calls : List Call) : Type 0 where
   pub alarms : readOf (reached calls) 1 7 ≡ Read (words (alarmSum (accepted (trace calls))) 0)
   pub total : reached calls .tot .state .total ≡ total (accepted (trace calls))
   pub ticks : Each Tick (accepted (trace calls))
+  -- "A call is accepted if, by the calls accepted before it, it meets no ground of refusal": whatever call comes next
+  pub acceptance : (next : Call) → accepts (reached calls) next ≡ isMet (accepted (trace calls)) (event (reached calls) next)
