@@ -39,7 +39,7 @@ filtered-unfinished time old x h = go (eq time (ofInt binary32 (pos 0)) || not (
     go true = h
     go false = add-right binary32 (old .value) _ (div-left binary32 _ _ (sub-left binary32 x (old .value) h))
 
--- "an input that isn't finite cannot lead to a finite calculated value"
+-- an input that is not finite cannot lead to a finite calculated value
 pub calculated-unfinished : (s : Settings) (old : Kept) (bits : ℕ) → finite (floatOf bits) ≡ false → finite (calculated s old bits) ≡ false
 unfolding calculated scaledValue scaledOf
 calculated-unfinished s old bits h =

@@ -28,7 +28,7 @@ inputOf s filter bits status =
     inputStatus status (finite (floatOf bits)) (finite (scaledValue s bits) && finite (calculated s filter bits))
 
 -- "Otherwise FSAFE_TYPE 0: FSAFE_VALUE, 0x48; 1: the last usable Auto value, 0x44, or 0 with 0x4C if none since start;
--- 2: the scaled value, or OUT's old value if not finite, with the Bad status."
+-- 2: the scaled value, or OUT's old value if not finite, with the Bad status." A type over 2, which no write stores, counts as 2
 unfoldable pub failSafeOut : ℕ → Float → Kept → Float → Pair → ℕ → Pair
 failSafeOut kind value last scaled old bad =
     cond (eqb kind 0) (record { bits = bitsOf value; status = 0x48 })

@@ -66,7 +66,7 @@ fn filter(time: f32, old: Kept, scaled: f32) -> f32
     old.value + (scaled - old.value) / (time * 10.0 + 1.0)
 }
 
-// OUT of an Auto tick that is not usable, for a finite or infinite scaled value.
+// OUT of an Auto tick that is not usable, whatever the scaled value is.
 fn fail_safe(kind: u32, value: f32, last: Kept, scaled: f32, old: Pair, bad: u8) -> Pair
     ensures { λ r. ⌜ r ≡ failSafeOut kind value last scaled old bad ⌝ }
 {

@@ -5,6 +5,7 @@ use mathlib.Core.Bool.{Bool, true, false, cond, not, _&&_, _||_}
 use mathlib.Core.Option.{Option, none, some}
 use lib.Dec.{eqb, ltb}
 use Rattle.wire.specs.Status.{qualityOf, subStatusOf}
+use Rattle.blocks.specs.Common.{outOfService, man}
 use Rattle.ao.specs.declared.Class.{Class}
 use Rattle.ao.specs.declared.Class.the-variants.{Usable, InitiateFailSafe, Neither}
 
@@ -117,4 +118,4 @@ leadsTo scaled old safety = record { value = old; status = 0x00; order = safe }
 -- in another mode, Auto or RCas, what the case leads to
 unfoldable pub byMode : {O : Type 0} → ℕ → O → O → ℕ → GivenOf O → GivenOf O
 byMode mode old operator operatorStatus led =
-    cond (eqb mode 0x80) (record { value = old; status = 0x1F; order = rest }) (cond (eqb mode 0x10) (positioned operator operatorStatus) led)
+    cond (eqb mode outOfService) (record { value = old; status = 0x1F; order = rest }) (cond (eqb mode man) (positioned operator operatorStatus) led)

@@ -7,7 +7,7 @@ use lib.Ieee.Scale.{finite}
 use Rattle.numbers.specs.Floats.{floatOf}
 use Rattle.wire.specs.declared.Pair.{Pair}
 use Rattle.wire.specs.declared.Refusal.{Refusal}
-use Rattle.wire.specs.declared.Refusal.the-variants.{NoSuchInput}
+use Rattle.wire.specs.Refusal.{ground}
 use Rattle.wire.specs.declared.Answer.{Answer}
 use Rattle.wire.specs.declared.Received.{Received}
 use Rattle.wire.specs.Bytes.{pairOf}
@@ -43,4 +43,4 @@ receivedOn state input (Received.Refused r) = refusedWith state r
 
 -- "telegram 8, then 7": "no such setpoint input", then "telegram not 5 bytes"
 unfoldable pub telegramOf : State → ℕ → List ℕ → Taken
-telegramOf state input bytes = cond (ltb 1 input) (refusedWith state NoSuchInput) (receivedOn state input (pairOf bytes))
+telegramOf state input bytes = cond (ltb 1 input) (refusedWith state (ground 8)) (receivedOn state input (pairOf bytes))

@@ -1,4 +1,4 @@
--- The definitions that `device`'s contracts cite, and their laws.
+-- The definitions that `device`'s contracts cite.
 pub mod Stored
 pub mod Factory
 pub mod Read

@@ -6,7 +6,7 @@ use lib.Ieee.{Float}
 use Rattle.numbers.specs.Floats.{bitsOf}
 use Rattle.scaling.specs.declared.Scale.{Scale}
 use Rattle.wire.specs.declared.Pair.{Pair}
-use Rattle.wire.specs.declared.Refusal.the-variants.{NoSuchBlock, NoSuchParameter}
+use Rattle.wire.specs.Refusal.{ground}
 use Rattle.ain.specs.declared.Alarms.{Alarms}
 use Rattle.parameters.specs.declared.Words.{Words}
 use Rattle.parameters.specs.declared.Entry.{Entry}
@@ -92,8 +92,8 @@ wordsOf d block number =
 
 -- "read 1, 2": "block over 3", "block lacks the parameter"
 abbrev pub readBy : Words → Entry → Reading
-readBy w NoBlock = Refused NoSuchBlock
-readBy w NoParameter = Refused NoSuchParameter
+readBy w NoBlock = Refused (ground 1)
+readBy w NoParameter = Refused (ground 2)
 readBy w (Parameter class allowed) = Read w
 
 unfoldable pub readOf : Device → ℕ → ℕ → Reading

@@ -2,7 +2,8 @@
 // (paper 01, "Calls on the device").
 ghost use mathlib.Core.Path.{_≡_};
 ghost use Prim.Native.Nat.{_%_, _≤_};
-ghost use Rattle.wire.specs.Image.{imageAnswer, imageBytes, partOf};
+ghost use denote.Ref.{ptr};
+ghost use Rattle.wire.specs.Image.{imageAnswer, imageBytes, partOf, partPlace};
 ghost use Rattle.parameters.specs.Table.{defaultOf};
 ghost use Rattle.device.specs.Factory.{ainBy, totBy, aoBy, factoryDevice};
 ghost use Rattle.device.specs.Stored.{pairOf, ainSettings, totSettings, aoSettings, revAfter, ainWritten, totWritten, aoWritten, storedIn};
@@ -242,18 +243,17 @@ fn ain_written(block: AinBlock, parameter: u8, a: u32, b: u32) -> AinBlock
             status: status,
         },
     );
-    let out = parameter == 10;
-    if out {
-        return AinBlock {
+    match parameter {
+        10 => AinBlock {
             settings: settings,
             state: operated,
             st_rev: rev,
-        };
-    }
-    AinBlock {
-        settings: settings,
-        state: old,
-        st_rev: rev,
+        },
+        _ => AinBlock {
+            settings: settings,
+            state: old,
+            st_rev: rev,
+        },
     }
 }
 
@@ -266,18 +266,17 @@ fn tot_written(block: TotBlock, parameter: u8, a: u32, b: u32) -> TotBlock
     let status = status_of(b);
     let old = block.state;
     let written = tot::written(old, a, status);
-    let total = parameter == 10;
-    if total {
-        return TotBlock {
+    match parameter {
+        10 => TotBlock {
             settings: settings,
             state: written,
             st_rev: rev,
-        };
-    }
-    TotBlock {
-        settings: settings,
-        state: old,
-        st_rev: rev,
+        },
+        _ => TotBlock {
+            settings: settings,
+            state: old,
+            st_rev: rev,
+        },
     }
 }
 
@@ -296,18 +295,17 @@ fn ao_written(block: AoBlock, parameter: u8, a: u32, b: u32) -> AoBlock
             status: status,
         },
     );
-    let out = parameter == 37;
-    if out {
-        return AoBlock {
+    match parameter {
+        37 => AoBlock {
             settings: settings,
             state: operated,
             st_rev: rev,
-        };
-    }
-    AoBlock {
-        settings: settings,
-        state: old,
-        st_rev: rev,
+        },
+        _ => AoBlock {
+            settings: settings,
+            state: old,
+            st_rev: rev,
+        },
     }
 }
 
@@ -579,6 +577,7 @@ pub fn image(d: Device, buf: &mut [u8]) -> Answer
 // One block's five bytes of an image, as that part of the caller's buffer.
 pub fn part(buf: &[u8], block: u8) -> &[u8]
     ensures { λ r. ⌜ now r ≡ partOf (now (buf .entry)) block ⌝ }
+    ensures { λ r. ⌜ ptr r ≡ partPlace (ptr (buf .entry)) (now (buf .entry)) block ⌝ }
 {
     wire::part(buf, block)
 }

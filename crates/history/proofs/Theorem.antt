@@ -147,8 +147,10 @@ telegram-answer d input bytes = go (ltb 1 input) refl (ltb input 2) refl (eqb (l
   where
     big : 1 < input → input < 2 → ⊥
     big a b = omega arith
+
     small : input ≤ 1 → 2 ≤ input → ⊥
     small a b = omega arith
+
     go : (p : Bool) → ltb 1 input ≡ p → (q : Bool) → ltb input 2 ≡ q → (r : Bool)
         → isAccepted (cond p (Ao.refusedWith (d .ao .state) NoSuchInput) (Ao.receivedOn (d .ao .state) input (cond r (Received.Value (record { bits = wordOf (getD bytes 0 0) (getD bytes 1 0) (getD bytes 2 0) (getD bytes 3 0); status = getD bytes 4 0 })) (Received.Refused WrongLength))) .answer) ≡ q && r
     go true ep true eq r = absurd (big (ltb-true 1 input ep) (ltb-true input 2 eq))

@@ -4,7 +4,7 @@ use mathlib.Core.Bool.{Bool, true, false, not, _&&_, cond}
 use lib.Dec.{eqb}
 use Rattle.wire.specs.declared.Answer.{Answer}
 use Rattle.wire.specs.declared.Answer.the-variants.{Accepted, Refused}
-use Rattle.wire.specs.declared.Refusal.the-variants.{NoSuchBlock, NoSuchParameter, ReadOnly, Locked, WordsNotAllowed, NotMan}
+use Rattle.wire.specs.Refusal as Refusal
 use Rattle.blocks.specs.Common.{man}
 use Rattle.parameters.specs.declared.Class.{Class}
 use Rattle.parameters.specs.declared.Class.the-variants.{S, N, D, R}
@@ -37,20 +37,20 @@ output (FiniteOr negative) = false
 output Output = true
 output (Total low high) = true
 
--- the target of a block
+-- the target of a block; asked of AIN, TOT and AO alone
 unfoldable pub targetIn : Standing → ℕ → ℕ
 targetIn s block = cond (eqb block 1) (s .ain) (cond (eqb block 2) (s .tot) (s .ao))
 
 -- "Write checks run 1 to 6": 1 "block over 3", 2 "block lacks the parameter", 3 "written parameter is R", 4 "WRITE_LOCKING 0, another parameter"
--- (block 0 has WRITE_LOCKING alone), 5 "words not allowed", 6 "OUT or TOTAL, target not Man"
+-- (block 0 has WRITE_LOCKING alone, and its only other value is 2457), 5 "words not allowed", 6 "OUT or TOTAL, target not Man"
 abbrev pub groundBy : Standing → ℕ → ℕ → ℕ → Entry → Answer
-groundBy s block a b NoBlock = Refused NoSuchBlock
-groundBy s block a b NoParameter = Refused NoSuchParameter
+groundBy s block a b NoBlock = Refused (Refusal.ground 1)
+groundBy s block a b NoParameter = Refused (Refusal.ground 2)
 groundBy s block a b (Parameter class allowed) =
-    cond (readOnly class) (Refused ReadOnly)
-    (cond (eqb (s .lock) 0 && not (eqb block 0)) (Refused Locked)
-    (cond (not (allowsOf allowed a b)) (Refused WordsNotAllowed)
-    (cond (output allowed && not (eqb (targetIn s block) man)) (Refused NotMan) Accepted)))
+    cond (readOnly class) (Refused (Refusal.ground 3))
+    (cond (eqb (s .lock) 0 && not (eqb block 0)) (Refused (Refusal.ground 4))
+    (cond (not (allowsOf allowed a b)) (Refused (Refusal.ground 5))
+    (cond (output allowed && not (eqb (targetIn s block) man)) (Refused (Refusal.ground 6)) Accepted)))
 
 unfoldable pub ground : Standing → ℕ → ℕ → ℕ → ℕ → Answer
 ground s block number a b = groundBy s block a b (entryOf block number)

@@ -5,7 +5,7 @@ use mathlib.Core.List.{List, [], _∷_, _++_}
 use lib.ListN.{length, getD, take, drop}
 use lib.Dec.{leb, eqb}
 use Rattle.wire.specs.declared.Pair.{Pair}
-use Rattle.wire.specs.declared.Refusal.the-variants.{WrongLength}
+use Rattle.wire.specs.Refusal.{ground}
 use Rattle.wire.specs.declared.Answer.{Answer}
 use Rattle.wire.specs.declared.Received.{Received}
 
@@ -23,7 +23,7 @@ wordOf a b c d = a * 2 ^ 24 + b * 2 ^ 16 + c * 2 ^ 8 + d
 
 -- the pair of exactly five bytes; "telegram not 5 bytes": refused
 unfoldable pub pairOf : List ℕ → Received
-pairOf s = cond (eqb (length s) 5) (Received.Value (record { bits = wordOf (getD s 0 0) (getD s 1 0) (getD s 2 0) (getD s 3 0); status = getD s 4 0 })) (Received.Refused WrongLength)
+pairOf s = cond (eqb (length s) 5) (Received.Value (record { bits = wordOf (getD s 0 0) (getD s 1 0) (getD s 2 0) (getD s 3 0); status = getD s 4 0 })) (Received.Refused (ground 7))
 
 -- bs in the place of as many bytes of s from at on, the bytes before and after unchanged
 abbrev pub replaced : List ℕ → ℕ → List ℕ → List ℕ
@@ -35,7 +35,7 @@ fiveFit s at = leb (at + 5) (length s)
 
 -- a pair's five bytes put at a place of a buffer: where they do not fit the call is refused and no byte changed
 unfoldable pub putAnswer : List ℕ → ℕ → Answer
-putAnswer s at = cond (fiveFit s at) Answer.Accepted (Answer.Refused WrongLength)
+putAnswer s at = cond (fiveFit s at) Answer.Accepted (Answer.Refused (ground 7))
 
 unfoldable pub putBytes : List ℕ → ℕ → Pair → List ℕ
 putBytes s at p = cond (fiveFit s at) (replaced s at (fiveBytes p)) s

@@ -5,7 +5,7 @@ use mathlib.Core.List.{List, [], _++_}
 use lib.ListN.{length, take, drop}
 use lib.Dec.{leb}
 use Rattle.wire.specs.declared.Pair.{Pair}
-use Rattle.wire.specs.declared.Refusal.the-variants.{WrongLength}
+use Rattle.wire.specs.Refusal.{ground}
 use Rattle.wire.specs.declared.Answer.{Answer}
 use Rattle.wire.specs.Bytes.{fiveBytes}
 
@@ -14,7 +14,7 @@ abbrev pub imageFits : List ℕ → Bool
 imageFits s = leb 15 (length s)
 
 unfoldable pub imageAnswer : List ℕ → Answer
-imageAnswer s = cond (imageFits s) Answer.Accepted (Answer.Refused WrongLength)
+imageAnswer s = cond (imageFits s) Answer.Accepted (Answer.Refused (ground 7))
 
 -- "AIN, TOT, AO, five bytes each, go into the front of a lent buffer, later bytes unchanged."; no byte changed where refused
 unfoldable pub imageBytes : List ℕ → Pair → Pair → Pair → List ℕ

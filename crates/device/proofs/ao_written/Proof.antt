@@ -1,5 +1,6 @@
 -- `device::ao_written` meets its contract: the number picks what changes.
 -- Assumes nothing.
+use borrow.Author.Tests.{ne-eqb}
 use Rattle.device.specs.Stored.{aoWritten}
 use borrow.Author.Needs.{needs}
 use Rattle.device.proofs.ao_written.Statement.{statement}
@@ -22,11 +23,11 @@ operated-requires c κs = search needs
 
 returns : tie.Need-returns
 unfolding aoWritten
-returns c = rw (c .before .operated .ensures, c .before .before .before .status-of .ensures, c .before .before .before .before .ao-settings .ensures, c .before .before .before .before .before .rev-after .ensures, c .before .before .before .before .before .before .counts .ensures, c .if1 .taken)
+returns c = rw (c .before .operated .ensures, c .before .before .before .status-of .ensures, c .before .before .before .before .ao-settings .ensures, c .before .before .before .before .before .rev-after .ensures, c .before .before .before .before .before .before .counts .ensures, c .match .keys1)
 
 returns-2 : tie.Need-returns-2
 unfolding aoWritten
-returns-2 c = rw (c .before .before .before .before .ao-settings .ensures, c .before .before .before .before .before .rev-after .ensures, c .before .before .before .before .before .before .counts .ensures, c .if1 .left)
+returns-2 c = rw (c .before .before .before .before .ao-settings .ensures, c .before .before .before .before .before .rev-after .ensures, c .before .before .before .before .before .before .counts .ensures, ne-eqb _ 37 (c .match .rest .1))
 
 pub ao-written-spec : {M : Type 1} → statement M
 ao-written-spec =

@@ -9,36 +9,27 @@ use denote.Ref.{now}
 use borrow.Author.Needs.{needs}
 use Rattle.history.proofs.bytes_at.Statement.{statement}
 use Rattle.history.proofs.bytes_at.Tie as tie
-use Rattle.history.proofs.bytes_at.Reads as reads
-use Rattle.history.proofs.bytes_at.Lts as lts
 
--- src/lib.rt:171:9
 slice-aggregate-result : tie.Need-slice-aggregate-result
 slice-aggregate-result c = search needs
 
--- src/lib.rt:171:9
 returns : tie.Need-returns
 returns c =
     let a = c .before .before .args in
     rw (drop-of-length-le (now (a .s)) (le-of-lt (c .before .if1 .taken))) (sym (take-nil (a .n)))
 
--- src/lib.rt:173:8
 sub-if2 : tie.Need-sub-if2
 sub-if2 c = search needs
 
--- src/lib.rt:174:16
 sub-result : tie.Need-sub-result
 sub-result c = search needs
 
--- src/lib.rt:174:16
 part-result-start : tie.Need-part-result-start
 part-result-start c = search needs
 
--- src/lib.rt:174:16
 part-result-end : tie.Need-part-result-end
 part-result-end c = search needs
 
--- src/lib.rt:174:9
 returns-2 : tie.Need-returns-2
 returns-2 c =
     let a = c .before .before .before .args in
@@ -46,23 +37,18 @@ returns-2 c =
     let n : length l ≡ length (now (a .s)) - a .from = length-drop (a .from) (now (a .s)) in
     take-all (length (now (a .s)) - a .from) l (le-of-eq n) ∙ sym (take-all (a .n) l (subst (λ (k : ℕ). k ≤ a .n) (sym n) (le-of-lt (c .before .if2 .taken))))
 
--- src/lib.rt:176:14
 add-result : tie.Need-add-result
 add-result c = search needs
 
--- src/lib.rt:176:5
 sub-result-2 : tie.Need-sub-result-2
 sub-result-2 c = search needs
 
--- src/lib.rt:176:5
 part-result-start-2 : tie.Need-part-result-start-2
 part-result-start-2 c = search needs
 
--- src/lib.rt:176:5
 part-result-end-2 : tie.Need-part-result-end-2
 part-result-end-2 c = search needs
 
--- src/lib.rt:167:1
 returns-3 : tie.Need-returns-3
 returns-3 c =
     let a = c .before .before .before .args in

@@ -4,83 +4,59 @@ use Rattle.history.specs.Calls.{after}
 use borrow.Author.Needs.{needs}
 use Rattle.history.proofs.made.Statement.{statement}
 use Rattle.history.proofs.made.Tie as tie
-use Rattle.history.proofs.made.Reads as reads
-use Rattle.history.proofs.made.Lts as lts
-use Rattle.device.proofs.telegram.Reads as telegram-reads
-use Rattle.device.proofs.tick.Reads as tick-reads
-use Rattle.device.proofs.warm_start.Reads as warm-start-reads
-use Rattle.device.proofs.write.Reads as write-reads
-use Rattle.history.proofs.bytes_at.Reads as bytes-at-reads
 
--- src/lib.rt:197:28
 enum-told : tie.Need-enum-told
 enum-told c = search needs
 
--- src/lib.rt:197:28
 warm-start-requires : tie.Need-warm-start-requires
 warm-start-requires c κs = search needs
 
--- src/lib.rt:198:20
 enum-known-step : tie.Need-enum-known-step
 enum-known-step c = search needs
 
--- src/lib.rt:199:17
 tick-requires : tie.Need-tick-requires
 tick-requires c κs = search needs
 
--- src/lib.rt:202:21
 enum-known-step-2 : tie.Need-enum-known-step-2
 enum-known-step-2 c = search needs
 
--- src/lib.rt:203:17
 write-requires : tie.Need-write-requires
 write-requires c κs = search needs
 
--- src/lib.rt:206:24
 enum-known-step-3 : tie.Need-enum-known-step-3
 enum-known-step-3 c = search needs
 
--- src/lib.rt:207:37
 add-bytes-at : tie.Need-add-bytes-at
 add-bytes-at c = search needs
 
--- src/lib.rt:207:17
 bytes-at-requires : tie.Need-bytes-at-requires
 bytes-at-requires c κs = search needs
 
--- src/lib.rt:208:17
 telegram-requires : tie.Need-telegram-requires
 telegram-requires c κs = search needs
 
--- src/lib.rt:211:28
 enum-told-2 : tie.Need-enum-told-2
 enum-told-2 c = search needs
 
--- src/lib.rt:211:28
 warm-start-requires-2 : tie.Need-warm-start-requires-2
 warm-start-requires-2 c κs = search needs
 
--- src/lib.rt:192:1
 returns : tie.Need-returns
 unfolding after
 returns c = rw (c .warm-start .ensures, c .before .enum-told .given .1)
 
--- src/lib.rt:192:1
 returns-2 : tie.Need-returns-2
 unfolding after
 returns-2 c = rw (c .before .tick .ensures, c .before .before .before .step .given .1)
 
--- src/lib.rt:192:1
 returns-3 : tie.Need-returns-3
 unfolding after
 returns-3 c = rw (c .before .write .ensures, c .before .before .before .step2 .given .1)
 
--- src/lib.rt:192:1
 returns-4 : tie.Need-returns-4
 unfolding after
 returns-4 c = rw (c .before .telegram .ensures, c .before .before .bytes-at .ensures, c .before .before .before .before .step3 .given .1)
 
--- src/lib.rt:192:1
 returns-5 : tie.Need-returns-5
 unfolding after
 returns-5 c = rw (c .warm-start2 .ensures, c .before .enum-told2 .given .1)

@@ -13,12 +13,6 @@ use Rattle.history.specs.Encoded.{isMalformed}
 use Rattle.history.proofs.Run.{runFrom, ended, spent, stopped, turned, handed, kept-promise}
 use Rattle.history.proofs.replay.Statement.{statement}
 use Rattle.history.proofs.replay.Tie as tie
-use Rattle.history.proofs.replay.Reads as reads
-use Rattle.history.proofs.replay.Lts as lts
-use Rattle.device.proofs.factory.Reads as factory-reads
-use Rattle.history.proofs.is_malformed.Reads as is-malformed-reads
-use Rattle.history.proofs.made.Reads as made-reads
-use Rattle.history.proofs.step_at.Reads as step-at-reads
 
 abbrev Inv-loop : tie.InvT-loop
 Inv-loop calls device₀ at₀ left₀ device at left = runFrom left calls at device ≡ runFrom (length calls) calls 0 factoryDevice
@@ -26,19 +20,15 @@ Inv-loop calls device₀ at₀ left₀ device at left = runFrom left calls at de
 abbrev μ-loop : tie.MeasureT-loop
 μ-loop calls device₀ at₀ left₀ device at left = left
 
--- src/lib.rt:219:9
 factory-requires : tie.Need-factory-requires Inv-loop μ-loop
 factory-requires c κs = search needs
 
--- src/lib.rt:222:5
 loop-holds : tie.Need-loop-holds Inv-loop μ-loop
 loop-holds c = ap (runFrom (length (now (c .before .before .args .calls))) (now (c .before .before .args .calls)) 0) (c .factory .ensures)
 
--- src/lib.rt:224:17
 factory-requires-2 : tie.Need-factory-requires-2 Inv-loop μ-loop
 factory-requires-2 c κs = search needs
 
--- src/lib.rt:225:13
 returns : tie.Need-returns Inv-loop μ-loop
 returns c =
     let s = c .before .before .before .before .before .before .args .calls .now in
@@ -47,19 +37,15 @@ returns c =
     (kept-promise s (λ i. c .before .before .before .before .before .shared-slice-known .given i .fits) none
     (sym (l .inv) ∙ ap (λ (n : ℕ). runFrom n s (l .at) (l .device)) (c .before .if1 .taken) ∙ spent s (l .at) (l .device) (c .before .before .loop-test .taken)))
 
--- src/lib.rt:230:13
 step-at-requires : tie.Need-step-at-requires Inv-loop μ-loop
 step-at-requires c κs = search needs
 
--- src/lib.rt:232:13
 is-malformed-requires : tie.Need-is-malformed-requires Inv-loop μ-loop
 is-malformed-requires c κs = search needs
 
--- src/lib.rt:234:17
 factory-requires-3 : tie.Need-factory-requires-3 Inv-loop μ-loop
 factory-requires-3 c κs = search needs
 
--- src/lib.rt:235:13
 returns-2 : tie.Need-returns-2 Inv-loop μ-loop
 returns-2 c =
     let s = c .before .before .before .before .before .before .before .before .before .args .calls .now in
@@ -70,19 +56,15 @@ returns-2 c =
     ∙ stopped s (l .at) (l .device) (l .left) (c .before .before .before .before .before .loop-test .taken) (c .before .before .before .before .if1 .left)
     (ap (λ (f : Found). isMalformed (f .step)) (sym (c .before .before .before .step-at .ensures)) ∙ sym (c .before .before .is-malformed .ensures) ∙ c .before .if2 .taken)))
 
--- src/lib.rt:240:9
 made-requires : tie.Need-made-requires Inv-loop μ-loop
 made-requires c κs = search needs
 
--- src/lib.rt:242:9
 sub-left : tie.Need-sub-left Inv-loop μ-loop
 sub-left c = omega arith
 
--- src/lib.rt:222:5
 loop-less : tie.Need-loop-less Inv-loop μ-loop
 loop-less c = omega arith
 
--- src/lib.rt:222:5
 loop-again : tie.Need-loop-again Inv-loop μ-loop
 loop-again c =
     let s = c .before .before .before .before .before .before .before .before .before .args .calls .now in
@@ -92,7 +74,6 @@ loop-again c =
     (ap (λ (f : Found). isMalformed (f .step)) (sym (c .before .before .before .step-at .ensures)) ∙ sym (c .before .before .is-malformed .ensures) ∙ c .before .if2 .left))
     ∙ l .inv)
 
--- src/lib.rt:216:1
 returns-3 : tie.Need-returns-3 Inv-loop μ-loop
 returns-3 c =
     let s = c .before .before .before .before .args .calls .now in

@@ -4,59 +4,41 @@ use Rattle.history.specs.Encoded.{stepAt}
 use borrow.Author.Needs.{needs}
 use Rattle.history.proofs.step_at.Statement.{statement}
 use Rattle.history.proofs.step_at.Tie as tie
-use Rattle.history.proofs.step_at.Reads as reads
-use Rattle.history.proofs.step_at.Lts as lts
-use Rattle.history.proofs.byte_at.Reads as byte-at-reads
-use Rattle.history.proofs.malformed.Reads as malformed-reads
-use Rattle.history.proofs.telegram_at.Reads as telegram-at-reads
-use Rattle.history.proofs.tick_at.Reads as tick-at-reads
-use Rattle.history.proofs.write_at.Reads as write-at-reads
 
--- src/lib.rt:143:9
 byte-at-requires : tie.Need-byte-at-requires
 byte-at-requires c κs = search needs
 
--- src/lib.rt:151:19
 add-t10 : tie.Need-add-t10
 add-t10 c = search needs
 
--- src/lib.rt:149:9
 returns : tie.Need-returns
 unfolding stepAt
 returns c = rw (← c .before .byte-at .ensures, c .if1 .taken)
 
--- src/lib.rt:155:9
 tick-at-requires : tie.Need-tick-at-requires
 tick-at-requires c κs = search needs
 
--- src/lib.rt:155:9
 returns-2 : tie.Need-returns-2
 unfolding stepAt
 returns-2 c = rw (c .tick-at .ensures, ← c .before .before .before .byte-at .ensures, c .before .before .if1 .left, c .before .if2 .taken)
 
--- src/lib.rt:158:9
 write-at-requires : tie.Need-write-at-requires
 write-at-requires c κs = search needs
 
--- src/lib.rt:158:9
 returns-3 : tie.Need-returns-3
 unfolding stepAt
 returns-3 c = rw (c .write-at .ensures, ← c .before .before .before .before .byte-at .ensures, c .before .before .before .if1 .left, c .before .before .if2 .left, c .before .if3 .taken)
 
--- src/lib.rt:161:9
 telegram-at-requires : tie.Need-telegram-at-requires
 telegram-at-requires c κs = search needs
 
--- src/lib.rt:161:9
 returns-4 : tie.Need-returns-4
 unfolding stepAt
 returns-4 c = rw (c .telegram-at .ensures, ← c .before .before .before .before .before .byte-at .ensures, c .before .before .before .before .if1 .left, c .before .before .before .if2 .left, c .before .before .if3 .left, c .before .if4 .taken)
 
--- src/lib.rt:163:5
 malformed-requires : tie.Need-malformed-requires
 malformed-requires c κs = search needs
 
--- src/lib.rt:139:1
 returns-5 : tie.Need-returns-5
 unfolding stepAt
 returns-5 c = rw (c .malformed .ensures, ← c .before .before .before .before .before .byte-at .ensures, c .before .before .before .before .if1 .left, c .before .before .before .if2 .left, c .before .before .if3 .left, c .before .if4 .left)

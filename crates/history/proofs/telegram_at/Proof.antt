@@ -5,83 +5,60 @@ use Rattle.history.specs.Encoded.{telegramFound}
 use borrow.Author.Needs.{needs}
 use Rattle.history.proofs.telegram_at.Statement.{statement}
 use Rattle.history.proofs.telegram_at.Tie as tie
-use Rattle.history.proofs.telegram_at.Reads as reads
-use Rattle.history.proofs.telegram_at.Lts as lts
-use Rattle.history.proofs.byte_at.Reads as byte-at-reads
-use Rattle.history.proofs.malformed.Reads as malformed-reads
-use Rattle.history.proofs.word_at.Reads as word-at-reads
 
--- src/lib.rt:122:16
 sub-left : tie.Need-sub-left
 sub-left c = search needs
 
--- src/lib.rt:124:9
 malformed-requires : tie.Need-malformed-requires
 malformed-requires c κs = search needs
 
--- src/lib.rt:124:9
 returns : tie.Need-returns
 unfolding telegramFound
 returns c = rw (c .malformed .ensures, lt-ltb _ _ (c .before .if1 .taken))
 
--- src/lib.rt:126:28
 add-byte-at : tie.Need-add-byte-at
 add-byte-at c = search needs
 
--- src/lib.rt:126:9
 byte-at-requires : tie.Need-byte-at-requires
 byte-at-requires c κs = search needs
 
--- src/lib.rt:127:27
 add-word-at : tie.Need-add-word-at
 add-word-at c = search needs
 
--- src/lib.rt:127:9
 word-at-requires : tie.Need-word-at-requires
 word-at-requires c κs = search needs
 
--- src/lib.rt:128:26
 add-word-at-2 : tie.Need-add-word-at-2
 add-word-at-2 c = search needs
 
--- src/lib.rt:128:9
 word-at-requires-2 : tie.Need-word-at-requires-2
 word-at-requires-2 c κs = search needs
 
--- src/lib.rt:129:13
 cast-n : tie.Need-cast-n
 cast-n c = search needs
 
--- src/lib.rt:129:13
 mul-n : tie.Need-mul-n
 mul-n c = search needs
 
--- src/lib.rt:129:45
 cast-n-2 : tie.Need-cast-n-2
 cast-n-2 c = search needs
 
--- src/lib.rt:129:13
 add-n : tie.Need-add-n
 add-n c = search needs
 
--- src/lib.rt:131:9
 malformed-requires-2 : tie.Need-malformed-requires-2
 malformed-requires-2 c κs = search needs
 
--- src/lib.rt:131:9
 returns-2 : tie.Need-returns-2
 unfolding telegramFound
 returns-2 c = rw (c .malformed2 .ensures, le-ltb _ _ (c .before .before .before .before .before .if1 .left), ← c .before .before .before .before .byte-at .ensures, ← c .before .before .before .word-at .ensures, ← c .before .before .word-at2 .ensures, lt-ltb _ _ (c .before .if2 .taken))
 
--- src/lib.rt:135:15
 add-t10 : tie.Need-add-t10
 add-t10 c = search needs
 
--- src/lib.rt:135:15
 add-t11 : tie.Need-add-t11
 add-t11 c = search needs
 
--- src/lib.rt:118:1
 returns-3 : tie.Need-returns-3
 unfolding telegramFound
 returns-3 c = rw (le-ltb _ _ (c .before .before .before .before .if1 .left), ← c .before .before .before .byte-at .ensures, ← c .before .before .word-at .ensures, ← c .before .word-at2 .ensures, le-ltb _ _ (c .if2 .left))

@@ -5,63 +5,45 @@ use Rattle.history.specs.Encoded.{tickFound}
 use borrow.Author.Needs.{needs}
 use Rattle.history.proofs.tick_at.Statement.{statement}
 use Rattle.history.proofs.tick_at.Tie as tie
-use Rattle.history.proofs.tick_at.Reads as reads
-use Rattle.history.proofs.tick_at.Lts as lts
-use Rattle.history.proofs.byte_at.Reads as byte-at-reads
-use Rattle.history.proofs.malformed.Reads as malformed-reads
-use Rattle.history.proofs.pair_at.Reads as pair-at-reads
 
--- src/lib.rt:83:16
 sub-left : tie.Need-sub-left
 sub-left c = search needs
 
--- src/lib.rt:85:9
 malformed-requires : tie.Need-malformed-requires
 malformed-requires c κs = search needs
 
--- src/lib.rt:85:9
 returns : tie.Need-returns
 unfolding tickFound
 returns c = rw (c .malformed .ensures, lt-ltb _ _ (c .before .if1 .taken))
 
--- src/lib.rt:87:28
 add-byte-at : tie.Need-add-byte-at
 add-byte-at c = search needs
 
--- src/lib.rt:87:9
 byte-at-requires : tie.Need-byte-at-requires
 byte-at-requires c κs = search needs
 
--- src/lib.rt:88:26
 add-pair-at : tie.Need-add-pair-at
 add-pair-at c = search needs
 
--- src/lib.rt:88:9
 pair-at-requires : tie.Need-pair-at-requires
 pair-at-requires c κs = search needs
 
--- src/lib.rt:89:26
 add-pair-at-2 : tie.Need-add-pair-at-2
 add-pair-at-2 c = search needs
 
--- src/lib.rt:89:9
 pair-at-requires-2 : tie.Need-pair-at-requires-2
 pair-at-requires-2 c κs = search needs
 
--- src/lib.rt:92:9
 malformed-requires-2 : tie.Need-malformed-requires-2
 malformed-requires-2 c κs = search needs
 
--- src/lib.rt:92:9
 returns-2 : tie.Need-returns-2
 unfolding tickFound
 returns-2 c = rw (c .malformed2 .ensures, le-ltb _ _ (c .before .before .before .before .before .if1 .left), ← c .before .before .before .before .byte-at .ensures, ← c .before .before .before .pair-at .ensures, ← c .before .before .pair-at2 .ensures, lt-ltb _ _ (c .before .if2 .taken))
 
--- src/lib.rt:96:15
 add-t8 : tie.Need-add-t8
 add-t8 c = search needs
 
--- src/lib.rt:79:1
 returns-3 : tie.Need-returns-3
 unfolding tickFound
 returns-3 c = rw (le-ltb _ _ (c .before .before .before .before .if1 .left), ← c .before .before .before .byte-at .ensures, ← c .before .before .pair-at .ensures, ← c .before .pair-at2 .ensures, le-ltb _ _ (c .if2 .left))
