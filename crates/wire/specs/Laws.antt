@@ -1,12 +1,12 @@
 -- Laws of the definitions in this folder, for callers: the status byte and the five bytes go there and back, and a buffer keeps its length. Assumes nothing.
-use Prim.Native.Nat.{ℕ, suc, _+_, _-_, _*_, _/_, _%_, _^_, _<_, _≤_}
+use Prim.Native.Nat.{ℕ, _+_, _-_, _*_, _/_, _%_, _^_, _<_, _≤_}
 use native.Mathlib.Omega.{arith}
 use mathlib.Core.Path.{_≡_, refl, sym, ap, _∙_}
 use mathlib.Core.Bool.{Bool, true, false, cond}
 use mathlib.Core.List.{List, [], _∷_, _++_}
 use lib.ListN.{length, getD, take, drop, drop-of-length-le, length-append, length-take, length-drop}
 use lib.Seq.{drop-cons, drop-drop}
-use lib.Dec.{leb, eqb}
+use lib.Dec.{eqb}
 use borrow.Author.Tests.{le-leb, leb-true, eqb-true, eqb-false}
 use Rattle.wire.specs.declared.status.Quality.{Quality}
 use Rattle.wire.specs.declared.status.Quality.the-variants.{Bad, Uncertain, Good, GoodCascade}
@@ -16,7 +16,7 @@ use Rattle.wire.specs.declared.status.Status.{Status}
 use Rattle.wire.specs.declared.Pair.{Pair}
 use Rattle.wire.specs.declared.Refusal.the-variants.{WrongLength}
 use Rattle.wire.specs.declared.Received.{Received}
-use Rattle.wire.specs.Status.{qualityOf, subStatusOf, limitsOf, qualityNumber, limitsNumber, qualityCase, limitsCase, caseOf, splitOf, builtOf}
+use Rattle.wire.specs.Status.{qualityNumber, limitsNumber, qualityCase, limitsCase, caseOf, splitOf, builtOf}
 use Rattle.wire.specs.Bytes.{fiveBytes, wordOf, pairOf, replaced, fiveFit, putBytes}
 use Rattle.wire.specs.Image.{imageFits, imageBytes, partOf}
 

@@ -98,10 +98,14 @@ pub fn put(buf: &mut [u8], at: usize, pair: Pair) -> Answer
     if at > buf.len() - 5 {
         return Answer::Refused(Refusal::WrongLength);
     }
-    buf[at] = (bits / 0x100_0000) as u8;
-    buf[at + 1] = (bits / 0x1_0000 % 256) as u8;
-    buf[at + 2] = (bits / 0x100 % 256) as u8;
-    buf[at + 3] = (bits % 256) as u8;
+    let a = (bits / 0x100_0000) as u8;
+    let b = (bits / 0x1_0000 % 256) as u8;
+    let c = (bits / 0x100 % 256) as u8;
+    let d = (bits % 256) as u8;
+    buf[at] = a;
+    buf[at + 1] = b;
+    buf[at + 2] = c;
+    buf[at + 3] = d;
     buf[at + 4] = status;
     Answer::Accepted
 }
@@ -130,7 +134,8 @@ pub fn image(buf: &mut [u8], ain: Pair, tot: Pair, ao: Pair) -> Answer
     ensures { λ r. ⌜ r ≡ imageAnswer (now (buf .entry)) ⌝ }
     ensures { λ _. ⌜ now (buf .exit) ≡ imageBytes (now (buf .entry)) ain tot ao ⌝ }
 {
-    if buf.len() < 15 {
+    let room = buf.len();
+    if room < 15 {
         return Answer::Refused(Refusal::WrongLength);
     }
     put(buf, 0, ain);

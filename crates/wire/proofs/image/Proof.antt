@@ -1,4 +1,6 @@
 -- `wire::image` meets its contract: three puts one after the other are the image, `image-puts`.
+use Prim.Native.Nat.{_≤_}
+use native.Mathlib.Omega.{arith}
 use borrow.Author.Tests.{le-leb, lt-leb}
 use lib.ListN.{length}
 use Rattle.wire.specs.Image.{imageAnswer, imageBytes}
@@ -7,37 +9,28 @@ use denote.Ref.{now}
 use borrow.Author.Needs.{needs}
 use Rattle.wire.proofs.image.Statement.{statement}
 use Rattle.wire.proofs.image.Tie as tie
-use Rattle.wire.proofs.image.Reads as reads
-use Rattle.wire.proofs.image.Lts as lts
-use Rattle.wire.proofs.put.Reads as put-reads
 
--- src/lib.rt:134:9
 returns : tie.Need-returns
 unfolding imageAnswer imageBytes
-returns c = let h = lt-leb 15 (length (now (c .before .before .args .buf))) (c .if1 .taken) in (rw h, rw h)
+returns c = let h = lt-leb 15 (length (now (c .before .before .args .buf))) (omega arith) in (rw h, rw h)
 
--- src/lib.rt:136:5
 put-requires : tie.Need-put-requires
 put-requires c κs = search needs
 
--- src/lib.rt:137:5
 put-requires-2 : tie.Need-put-requires-2
 put-requires-2 c κs = search needs
 
--- src/lib.rt:138:5
 put-requires-3 : tie.Need-put-requires-3
 put-requires-3 c κs = search needs
 
--- src/lib.rt:129:1
 same-length : tie.Need-same-length
 same-length c = search needs
 
--- src/lib.rt:129:1
 returns-2 : tie.Need-returns-2
 unfolding imageAnswer
 returns-2 c = let a = c .before .before .before .before .before .before .before .before .before .before .before .before .before .before .args in
     let s = now (a .buf) in
-    let h = c .before .before .before .before .before .before .before .before .before .before .before .before .if1 .left in
+    let h : 15 ≤ length s = omega arith in
     (rw (le-leb 15 (length s) h), rw (c .before .before .put3 .ensures .1, c .before .before .before .before .before .before .put2 .ensures .1, c .before .before .before .before .before .before .before .before .before .before .put .ensures .1) (image-puts s (a .ain) (a .tot) (a .ao) h))
 
 pub image-spec : {M : Type 1} → statement M

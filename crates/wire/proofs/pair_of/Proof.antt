@@ -1,4 +1,5 @@
 -- `wire::pair_of` meets its contract: the test of the length is the definition's, and `word` gives the definition's word.
+use native.Mathlib.Omega.{arith}
 use borrow.Author.Tests.{eq-eqb, ne-eqb}
 use lib.ListN.{length}
 use Rattle.wire.specs.Bytes.{pairOf}
@@ -6,43 +7,32 @@ use denote.Ref.{now}
 use borrow.Author.Needs.{needs}
 use Rattle.wire.proofs.pair_of.Statement.{statement}
 use Rattle.wire.proofs.pair_of.Tie as tie
-use Rattle.wire.proofs.pair_of.Reads as reads
-use Rattle.wire.proofs.pair_of.Lts as lts
-use Rattle.wire.proofs.word.Reads as word-reads
 
--- src/lib.rt:121:9
 returns : tie.Need-returns
 unfolding pairOf
-returns c = rw (ne-eqb (length (now (c .before .before .args .s))) 5 (c .if1 .taken))
+returns c = rw (ne-eqb (length (now (c .before .before .args .s))) 5 (omega arith))
 
--- src/lib.rt:123:21
 shared-slice-read-word : tie.Need-shared-slice-read-word
 shared-slice-read-word c = search needs
 
--- src/lib.rt:123:27
 shared-slice-read-word-2 : tie.Need-shared-slice-read-word-2
 shared-slice-read-word-2 c = search needs
 
--- src/lib.rt:123:33
 shared-slice-read-word-3 : tie.Need-shared-slice-read-word-3
 shared-slice-read-word-3 c = search needs
 
--- src/lib.rt:123:39
 shared-slice-read-word-4 : tie.Need-shared-slice-read-word-4
 shared-slice-read-word-4 c = search needs
 
--- src/lib.rt:123:9
 word-requires : tie.Need-word-requires
 word-requires c κs = search needs
 
--- src/lib.rt:124:18
 shared-slice-read-status : tie.Need-shared-slice-read-status
 shared-slice-read-status c = search needs
 
--- src/lib.rt:117:1
 returns-2 : tie.Need-returns-2
 unfolding pairOf
-returns-2 c = rw (c .before .word .ensures, eq-eqb (length (now (c .before .before .before .before .before .before .before .before .args .s))) 5 (c .before .before .before .before .before .before .if1 .left))
+returns-2 c = rw (c .before .word .ensures, eq-eqb (length (now (c .before .before .before .before .before .before .before .before .args .s))) 5 (omega arith))
 
 pub pair-of-spec : {M : Type 1} → statement M
 pair-of-spec =

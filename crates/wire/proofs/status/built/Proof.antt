@@ -5,36 +5,25 @@ use Rattle.wire.specs.Laws.{quality-below, limits-below}
 use borrow.Author.Needs.{needs}
 use Rattle.wire.proofs.status.built.Statement.{statement}
 use Rattle.wire.proofs.status.built.Tie as tie
-use Rattle.wire.proofs.status.built.Reads as reads
-use Rattle.wire.proofs.status.built.Lts as lts
-use Rattle.wire.proofs.status.limits_number.Reads as limits-number-reads
-use Rattle.wire.proofs.status.quality_number.Reads as quality-number-reads
 
--- src/status.rt:102:10
 quality-number-requires : tie.Need-quality-number-requires
 quality-number-requires c κs = search needs
 
--- src/status.rt:102:5
 mul-result : tie.Need-mul-result
 mul-result c = omega (arith, quality-below (c .before .args .s .quality), limits-below (c .before .args .s .limits))
 
--- src/status.rt:102:30
 mul-result-2 : tie.Need-mul-result-2
 mul-result-2 c = search needs
 
--- src/status.rt:102:5
 add-result : tie.Need-add-result
 add-result c = omega (arith, quality-below (c .before .before .args .s .quality), limits-below (c .before .before .args .s .limits))
 
--- src/status.rt:102:56
 limits-number-requires : tie.Need-limits-number-requires
 limits-number-requires c κs = search needs
 
--- src/status.rt:102:5
 add-result-2 : tie.Need-add-result-2
 add-result-2 c = omega (arith, quality-below (c .before .before .before .args .s .quality), limits-below (c .before .before .before .args .s .limits))
 
--- src/status.rt:97:1
 returns : tie.Need-returns
 unfolding builtOf
 returns c = rw (c .limits-number .ensures, c .before .before .quality-number .ensures)

@@ -1,22 +1,16 @@
 -- `wire::status::limits_case` meets its contract: the tests run in the definition's order, and each return rewrites with those that led to it.
 use Rattle.wire.proofs.status.limits_case.Statement.{statement}
 use Rattle.wire.proofs.status.limits_case.Tie as tie
-use Rattle.wire.proofs.status.limits_case.Reads as reads
-use Rattle.wire.proofs.status.limits_case.Lts as lts
 
--- src/status.rt:48:9
 returns : tie.Need-returns
 returns c = rw (c .if1 .taken)
 
--- src/status.rt:52:9
 returns-2 : tie.Need-returns-2
 returns-2 c = rw (c .before .if1 .left, c .if2 .taken)
 
--- src/status.rt:56:9
 returns-3 : tie.Need-returns-3
 returns-3 c = rw (c .before .before .if1 .left, c .before .if2 .left, c .if3 .taken)
 
--- src/status.rt:43:1
 returns-4 : tie.Need-returns-4
 returns-4 c = rw (c .before .before .if1 .left, c .before .if2 .left, c .if3 .left)
 
