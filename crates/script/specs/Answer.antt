@@ -34,6 +34,6 @@ answerParts Answer.Rest row = (114 ∷ 101 ∷ 115 ∷ 116 ∷ 10 ∷ []) ∷ []
 -- `words 0x00000008 0x00000000`
 answerParts (Answer.Words first second) row = (119 ∷ 111 ∷ 114 ∷ 100 ∷ 115 ∷ 32 ∷ []) ∷ hexWord first ∷ (32 ∷ []) ∷ hexWord second ∷ (10 ∷ []) ∷ []
 -- `bytes 42 48 ..`; "`bytes` alone if it is empty"
-answerParts Answer.Bytes row = (98 ∷ 121 ∷ 116 ∷ 101 ∷ 115 ∷ []) ∷ rowParts row ++ (10 ∷ []) ∷ []
+answerParts Answer.Bytes row = (98 ∷ 121 ∷ 116 ∷ 101 ∷ 115 ∷ []) ∷ (rowParts row ++ ((10 ∷ []) ∷ []))
 -- `total -16777217`
 answerParts (Answer.Total z) row = (116 ∷ 111 ∷ 116 ∷ 97 ∷ 108 ∷ 32 ∷ []) ∷ signed z ∷ (10 ∷ []) ∷ []

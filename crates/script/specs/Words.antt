@@ -1,10 +1,9 @@
 -- The words of a line and the numbers that they stand for, by the call script. A line is a list of bytes, without its 0x0A. Assumes nothing.
-use Prim.Native.Nat.{ℕ, zero, suc, _%_, _≤_}
+use Prim.Native.Nat.{ℕ, zero, suc, _-_, _%_, _≤_}
 use mathlib.Core.Path.{_≡_}
 use mathlib.Core.Bool.{Bool, true, false, cond, _&&_}
 use mathlib.Core.List.{List, [], _∷_, _++_}
-use lib.ListN.{length, drop}
-use lib.Seq.{slice}
+use lib.ListN.{length, take, drop}
 use lib.Dec.{leb, eqb}
 use Rattle.text.specs.declared.Number.{Number}
 use Rattle.text.specs.declared.Number.the-variants.{Value, Not}
@@ -39,11 +38,15 @@ abbrev pub restOf : List (List ℕ) → List (List ℕ)
 restOf [] = []
 restOf (w ∷ ws) = ws
 
+-- the bytes of a line from one place to another
+abbrev pub between : List ℕ → ℕ → ℕ → List ℕ
+between line from to = take (to - from) (drop from line)
+
 -- from and to are the ends of the first word from a place of a line on; they are equal where there is none
 pub record NextWord (line : List ℕ) (at from to : ℕ) : Type 0 where
   pub ordered : from ≤ to
   pub within : to ≤ length line
-  pub first : slice from to line ≡ firstOf (wordsOf (drop at line))
+  pub first : between line from to ≡ firstOf (wordsOf (drop at line))
   pub rest : wordsOf (drop to line) ≡ restOf (wordsOf (drop at line))
   pub none : eqb from to ≡ isEmpty (wordsOf (drop at line))
 
@@ -67,19 +70,28 @@ unfoldable pub fitting : List ℕ → List (List ℕ) → Bool
 fitting [] ws = isEmpty ws
 fitting (limit ∷ limits) ws = upTo limit (numberOf (firstOf ws)) && fitting limits (restOf ws)
 
+-- what each of the first n words gives
+unfoldable pub eachOf : (List ℕ → ℕ) → ℕ → List (List ℕ) → List ℕ
+eachOf f zero ws = []
+eachOf f (suc n) ws = f (firstOf ws) ∷ eachOf f n (restOf ws)
+
+abbrev pub wordValue : List ℕ → ℕ
+wordValue w = valueOf (numberOf w)
+
 -- the values of the first n words
-unfoldable pub valuesOf : ℕ → List (List ℕ) → List ℕ
-valuesOf zero ws = []
-valuesOf (suc n) ws = valueOf (numberOf (firstOf ws)) ∷ valuesOf n (restOf ws)
+abbrev pub valuesOf : ℕ → List (List ℕ) → List ℕ
+valuesOf = eachOf wordValue
 
 -- the lowest byte of a number
 abbrev pub byteOf : Number → ℕ
 byteOf n = valueOf n % 256
 
+abbrev pub wordByte : List ℕ → ℕ
+wordByte w = byteOf (numberOf w)
+
 -- the lowest bytes of the first n words' numbers
-unfoldable pub bytesOf : ℕ → List (List ℕ) → List ℕ
-bytesOf zero ws = []
-bytesOf (suc n) ws = byteOf (numberOf (firstOf ws)) ∷ bytesOf n (restOf ws)
+abbrev pub bytesOf : ℕ → List (List ℕ) → List ℕ
+bytesOf = eachOf wordByte
 
 -- ---- names
 

@@ -4,8 +4,7 @@ ghost use mathlib.Core.Bool.{true, false};
 ghost use Prim.Native.Nat.{_≤_, _<_};
 ghost use lib.ListN.{length, drop, getD};
 ghost use lib.Dec.{eqb};
-ghost use lib.Seq.{slice};
-ghost use Rattle.script.specs.Words.{some, wordsOf, isEmpty, NextWord, numberOf, upTo, valueOf, fitting, valuesOf, byteOf, bytesOf, sameBytes};
+ghost use Rattle.script.specs.Words.{some, wordsOf, isEmpty, between, NextWord, numberOf, upTo, valueOf, fitting, valuesOf, byteOf, bytesOf, sameBytes};
 use text::Number;
 
 // A word's place in its line.
@@ -32,7 +31,7 @@ fn spaces_end(line: &[u8], at: usize) -> usize
 // The place of the next space, or the line's end.
 fn word_end(line: &[u8], from: usize) -> usize
     requires { ⌜ from ≤ length (now line) ⌝ }
-    ensures { λ r. ⌜ (from ≤ r) × (r ≤ length (now (line .entry))) × (r < length (now (line .entry)) → eqb (getD (now (line .entry)) r 0) 32 ≡ true) × (wordsOf (drop from (now (line .entry))) ≡ some (slice from r (now (line .entry))) (wordsOf (drop r (now (line .entry))))) ⌝ }
+    ensures { λ r. ⌜ (from ≤ r) × (r ≤ length (now (line .entry))) × (r < length (now (line .entry)) → eqb (getD (now (line .entry)) r 0) 32 ≡ true) × (wordsOf (drop from (now (line .entry))) ≡ some (between (now (line .entry)) from r) (wordsOf (drop r (now (line .entry))))) ⌝ }
 {
     let mut i = from;
     while i < line.len() {
@@ -118,7 +117,7 @@ fn value(n: Number) -> u64
 // The number that the part of a line stands for.
 fn number(line: &[u8], from: usize, to: usize) -> Number
     requires { ⌜ (from ≤ to) × (to ≤ length (now line)) ⌝ }
-    ensures { λ r. ⌜ r ≡ numberOf (slice from to (now (line .entry))) ⌝ }
+    ensures { λ r. ⌜ r ≡ numberOf (between (now (line .entry)) from to) ⌝ }
 {
     text::number_in(line, from, to, 0xffff_ffff)
 }

@@ -1,0 +1,68 @@
+use borrow.Author.Needs.{needs}
+use Rattle.script.proofs.parse.Statement.{statement}
+use Rattle.script.proofs.parse.Tie as tie
+use Rattle.script.proofs.parse.Reads as reads
+use Rattle.script.proofs.parse.Lts as lts
+use Rattle.script.proofs.call.Reads as call-reads
+use Rattle.script.proofs.name_of.Reads as name-of-reads
+use Rattle.script.proofs.words.next_word.Reads as next-word-reads
+
+-- src/lib.rt:255:9
+returns : tie.Need-returns
+returns c = ?
+
+-- src/lib.rt:257:9
+next-word-requires : tie.Need-next-word-requires
+next-word-requires c κs = search needs
+
+-- src/lib.rt:261:9
+returns-2 : tie.Need-returns-2
+returns-2 c = ?
+
+-- src/lib.rt:263:18
+shared-slice-read-remark : tie.Need-shared-slice-read-remark
+shared-slice-read-remark c = search needs
+
+-- src/lib.rt:265:9
+returns-3 : tie.Need-returns-3
+returns-3 c = ?
+
+-- src/lib.rt:267:24
+sub-name-of : tie.Need-sub-name-of
+sub-name-of c = search needs
+
+-- src/lib.rt:267:24
+part-name-of-start : tie.Need-part-name-of-start
+part-name-of-start c = search needs
+
+-- src/lib.rt:267:24
+part-name-of-end : tie.Need-part-name-of-end
+part-name-of-end c = search needs
+
+-- src/lib.rt:267:9
+name-of-requires : tie.Need-name-of-requires
+name-of-requires c κs = search needs
+
+-- src/lib.rt:268:5
+call-requires : tie.Need-call-requires
+call-requires c κs = search needs
+
+-- src/lib.rt:250:1
+returns-4 : tie.Need-returns-4
+returns-4 c = ?
+
+pub parse-spec : {M : Type 1} → statement M
+parse-spec =
+    tie.close
+    (tie.spec
+    returns
+    next-word-requires
+    returns-2
+    shared-slice-read-remark
+    returns-3
+    sub-name-of
+    part-name-of-start
+    part-name-of-end
+    name-of-requires
+    call-requires
+    returns-4)

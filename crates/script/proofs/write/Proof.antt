@@ -1,0 +1,76 @@
+use borrow.Author.Needs.{needs}
+use Rattle.script.proofs.write.Statement.{statement}
+use Rattle.script.proofs.write.Tie as tie
+use Rattle.script.proofs.write.Reads as reads
+use Rattle.script.proofs.write.Lts as lts
+use Rattle.script.proofs.words.numbers.Reads as numbers-reads
+
+-- src/lib.rt:174:41
+slice-aggregate-numbers : tie.Need-slice-aggregate-numbers
+slice-aggregate-numbers c = search needs
+
+-- src/lib.rt:174:66
+slice-aggregate-numbers-2 : tie.Need-slice-aggregate-numbers-2
+slice-aggregate-numbers-2 c = search needs
+
+-- src/lib.rt:174:9
+numbers-requires : tie.Need-numbers-requires
+numbers-requires c κs = search needs
+
+-- src/lib.rt:177:20
+array-read-t13 : tie.Need-array-read-t13
+array-read-t13 c = search needs
+
+-- src/lib.rt:177:20
+cast-t14 : tie.Need-cast-t14
+cast-t14 c = ?
+
+-- src/lib.rt:178:24
+array-read-t17 : tie.Need-array-read-t17
+array-read-t17 c = search needs
+
+-- src/lib.rt:178:24
+cast-t18 : tie.Need-cast-t18
+cast-t18 c = ?
+
+-- src/lib.rt:179:20
+array-read-t21 : tie.Need-array-read-t21
+array-read-t21 c = search needs
+
+-- src/lib.rt:179:20
+cast-t22 : tie.Need-cast-t22
+cast-t22 c = ?
+
+-- src/lib.rt:180:21
+array-read-t25 : tie.Need-array-read-t25
+array-read-t25 c = search needs
+
+-- src/lib.rt:180:21
+cast-t26 : tie.Need-cast-t26
+cast-t26 c = ?
+
+-- src/lib.rt:176:9
+returns : tie.Need-returns
+returns c = ?
+
+-- src/lib.rt:169:1
+returns-2 : tie.Need-returns-2
+returns-2 c = ?
+
+pub write-spec : {M : Type 1} → statement M
+write-spec =
+    tie.close
+    (tie.spec
+    slice-aggregate-numbers
+    slice-aggregate-numbers-2
+    numbers-requires
+    array-read-t13
+    cast-t14
+    array-read-t17
+    cast-t18
+    array-read-t21
+    cast-t22
+    array-read-t25
+    cast-t26
+    returns
+    returns-2)
