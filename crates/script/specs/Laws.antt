@@ -190,5 +190,5 @@ both-true false b e = absurd (let z : _≡_ {A = ℕ} 0 1 = cc in omega arith)
 pub fitting-within : (limits : List ℕ) (ws : List (List ℕ)) (k : ℕ) → fitting limits ws ≡ true → k < length limits → getD (valuesOf (length limits) ws) k 0 ≤ getD limits k 0
 unfolding fitting eachOf
 fitting-within [] ws k e h = absurd (omega arith)
-fitting-within (l ∷ ls) ws zero e h = value-within l (numberOf (firstOf ws)) (both-true _ _ e .0)
-fitting-within (l ∷ ls) ws (suc k) e h = fitting-within ls (restOf ws) k (both-true _ _ e .1) (omega arith)
+fitting-within (l ∷ ls) ws zero e h = value-within l (numberOf (firstOf ws)) (both-true (upTo l (numberOf (firstOf ws))) (fitting ls (restOf ws)) e .0)
+fitting-within (l ∷ ls) ws (suc k) e h = fitting-within ls (restOf ws) k (both-true (upTo l (numberOf (firstOf ws))) (fitting ls (restOf ws)) e .1) (omega arith)

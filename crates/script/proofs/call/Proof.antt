@@ -1,3 +1,5 @@
+-- `script::call` meets its contract: each arm is the definition's case.
+use Rattle.script.specs.Command.{callOf}
 use borrow.Author.Needs.{needs}
 use Rattle.script.proofs.call.Statement.{statement}
 use Rattle.script.proofs.call.Tie as tie
@@ -89,43 +91,53 @@ enum-told-10 c = search needs
 
 -- src/lib.rt:231:1
 returns : tie.Need-returns
-returns c = ?
+unfolding callOf
+returns c = rw (c .alone .ensures, c .before .enum-told .given .1)
 
 -- src/lib.rt:231:1
 returns-2 : tie.Need-returns-2
-returns-2 c = ?
+unfolding callOf
+returns-2 c = rw (c .tick .ensures, c .before .enum-told2 .given .1)
 
 -- src/lib.rt:231:1
 returns-3 : tie.Need-returns-3
-returns-3 c = ?
+unfolding callOf
+returns-3 c = rw (c .telegram .ensures, c .before .enum-told3 .given .1)
 
 -- src/lib.rt:231:1
 returns-4 : tie.Need-returns-4
-returns-4 c = ?
+unfolding callOf
+returns-4 c = rw (c .write .ensures, c .before .enum-told4 .given .1)
 
 -- src/lib.rt:231:1
 returns-5 : tie.Need-returns-5
-returns-5 c = ?
+unfolding callOf
+returns-5 c = rw (c .alone2 .ensures, c .before .enum-told5 .given .1)
 
 -- src/lib.rt:231:1
 returns-6 : tie.Need-returns-6
-returns-6 c = ?
+unfolding callOf
+returns-6 c = rw (c .read .ensures, c .before .enum-told6 .given .1)
 
 -- src/lib.rt:231:1
 returns-7 : tie.Need-returns-7
-returns-7 c = ?
+unfolding callOf
+returns-7 c = rw (c .image .ensures, c .before .enum-told7 .given .1)
 
 -- src/lib.rt:231:1
 returns-8 : tie.Need-returns-8
-returns-8 c = ?
+unfolding callOf
+returns-8 c = rw (c .part .ensures, c .before .enum-told8 .given .1)
 
 -- src/lib.rt:231:1
 returns-9 : tie.Need-returns-9
-returns-9 c = ?
+unfolding callOf
+returns-9 c = rw (c .alone3 .ensures, c .before .enum-told9 .given .1)
 
 -- src/lib.rt:231:1
 returns-10 : tie.Need-returns-10
-returns-10 c = ?
+unfolding callOf
+returns-10 c = rw (c .enum-told10 .given .1)
 
 pub call-spec : {M : Type 1} → statement M
 call-spec =

@@ -1,3 +1,6 @@
+-- `script::image` meets its contract: `numbers` tells whether the words fit and gives their values, which are within their limits.
+use Rattle.script.proofs.Told.{told}
+use Rattle.script.specs.Command.{imageCall}
 use borrow.Author.Needs.{needs}
 use Rattle.script.proofs.image.Statement.{statement}
 use Rattle.script.proofs.image.Tie as tie
@@ -23,11 +26,13 @@ array-read-t13 c = search needs
 
 -- src/lib.rt:208:9
 returns : tie.Need-returns
-returns c = ?
+unfolding imageCall
+returns c = rw (told (c .before .before .numbers .ensures .0) (c .if1 .taken), c .before .before .numbers .ensures .1)
 
 -- src/lib.rt:201:1
 returns-2 : tie.Need-returns-2
-returns-2 c = ?
+unfolding imageCall
+returns-2 c = rw (told (c .before .before .numbers .ensures .0) (c .if1 .left))
 
 pub image-spec : {M : Type 1} → statement M
 image-spec =

@@ -1,3 +1,7 @@
+-- `script::parse` meets its contract: its tests are the definition's, and the first word's place gives its name and where its arguments stand.
+use Rattle.script.proofs.Told.{told}
+use borrow.Author.Tests.{eq-eqb, ne-eqb}
+use Rattle.script.specs.Command.{commandOf}
 use borrow.Author.Needs.{needs}
 use Rattle.script.proofs.parse.Statement.{statement}
 use Rattle.script.proofs.parse.Tie as tie
@@ -9,7 +13,8 @@ use Rattle.script.proofs.words.next_word.Reads as next-word-reads
 
 -- src/lib.rt:255:9
 returns : tie.Need-returns
-returns c = ?
+unfolding commandOf
+returns c = rw (c .if1 .taken)
 
 -- src/lib.rt:257:9
 next-word-requires : tie.Need-next-word-requires
@@ -17,7 +22,10 @@ next-word-requires c κs = search needs
 
 -- src/lib.rt:261:9
 returns-2 : tie.Need-returns-2
-returns-2 c = ?
+unfolding commandOf
+returns-2 c =
+    let w = c .before .next-word .ensures in
+    rw (c .before .before .if1 .left, told (w .none) (eq-eqb _ _ (c .if2 .taken)))
 
 -- src/lib.rt:263:18
 shared-slice-read-remark : tie.Need-shared-slice-read-remark
@@ -25,7 +33,10 @@ shared-slice-read-remark c = search needs
 
 -- src/lib.rt:265:9
 returns-3 : tie.Need-returns-3
-returns-3 c = ?
+unfolding commandOf
+returns-3 c =
+    let w = c .before .before .before .next-word .ensures in
+    rw (c .before .before .before .before .if1 .left, told (w .none) (ne-eqb _ _ (c .before .before .if2 .left)), c .if3 .taken)
 
 -- src/lib.rt:267:24
 sub-name-of : tie.Need-sub-name-of
@@ -49,7 +60,10 @@ call-requires c κs = search needs
 
 -- src/lib.rt:250:1
 returns-4 : tie.Need-returns-4
-returns-4 c = ?
+unfolding commandOf
+returns-4 c =
+    let w = c .before .before .before .before .before .before .next-word .ensures in
+    rw (c .before .before .before .before .before .before .before .if1 .left, told (w .none) (ne-eqb _ _ (c .before .before .before .before .before .if2 .left)), c .before .before .before .if3 .left, c .call .ensures, c .before .name-of .ensures, w .first, w .rest)
 
 pub parse-spec : {M : Type 1} → statement M
 parse-spec =

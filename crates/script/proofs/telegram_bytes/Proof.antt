@@ -1,3 +1,4 @@
+-- `script::telegram_bytes` meets its contract: the words after the first two are those from the second's end on.
 use borrow.Author.Needs.{needs}
 use Rattle.script.proofs.telegram_bytes.Statement.{statement}
 use Rattle.script.proofs.telegram_bytes.Tie as tie
@@ -24,7 +25,10 @@ same-length c = search needs
 
 -- src/lib.rt:272:1
 returns : tie.Need-returns
-returns c = ?
+returns c =
+    let d = c .before .before .before .before .before .next-word .ensures in
+    let e = c .before .before .before .before .next-word2 .ensures in
+    rw (c .before .before .bytes .ensures, e .rest, d .rest)
 
 pub telegram-bytes-spec : {M : Type 1} → statement M
 telegram-bytes-spec =

@@ -1,9 +1,24 @@
+-- `script::tick` meets its contract: `numbers` tells whether the words fit and gives their values, which are within their limits.
+use Rattle.script.proofs.Told.{told}
+use Rattle.script.specs.Command.{tickCall}
+use Prim.Native.Nat.{ℕ, _≤_, _<_}
+use native.Mathlib.Omega.{arith}
+use lib.ListN.{length, getD}
+use mathlib.Core.List.{List, [], _∷_}
+use Rattle.script.specs.Laws.{fitting-within}
 use borrow.Author.Needs.{needs}
 use Rattle.script.proofs.tick.Statement.{statement}
 use Rattle.script.proofs.tick.Tie as tie
 use Rattle.script.proofs.tick.Reads as reads
 use Rattle.script.proofs.tick.Lts as lts
 use Rattle.script.proofs.words.numbers.Reads as numbers-reads
+
+abbrev limits : List ℕ
+limits = 1 ∷ 4294967295 ∷ 255 ∷ 4294967295 ∷ 255 ∷ []
+
+-- each value is within its limit
+within : (c : tie.Then1) (k : ℕ) → k < length limits → getD (c .before .before .numbers .last .1 .1 .1 .0) k 0 ≤ getD limits k 0
+within c k h = rw (c .before .before .numbers .ensures .1) (fitting-within limits _ k (told (c .before .before .numbers .ensures .0) (c .if1 .taken)) h)
 
 -- src/lib.rt:132:41
 slice-aggregate-numbers : tie.Need-slice-aggregate-numbers
@@ -27,7 +42,7 @@ array-read-t14 c = search needs
 
 -- src/lib.rt:137:23
 cast-t17 : tie.Need-cast-t17
-cast-t17 c = ?
+cast-t17 c = omega (arith, within c 1 (omega arith))
 
 -- src/lib.rt:138:25
 array-read-t20 : tie.Need-array-read-t20
@@ -35,7 +50,7 @@ array-read-t20 c = search needs
 
 -- src/lib.rt:138:25
 cast-t21 : tie.Need-cast-t21
-cast-t21 c = ?
+cast-t21 c = omega (arith, within c 2 (omega arith))
 
 -- src/lib.rt:139:23
 array-read-t24 : tie.Need-array-read-t24
@@ -43,7 +58,7 @@ array-read-t24 c = search needs
 
 -- src/lib.rt:139:23
 cast-t25 : tie.Need-cast-t25
-cast-t25 c = ?
+cast-t25 c = omega (arith, within c 3 (omega arith))
 
 -- src/lib.rt:140:25
 array-read-t28 : tie.Need-array-read-t28
@@ -51,15 +66,17 @@ array-read-t28 c = search needs
 
 -- src/lib.rt:140:25
 cast-t29 : tie.Need-cast-t29
-cast-t29 c = ?
+cast-t29 c = omega (arith, within c 4 (omega arith))
 
 -- src/lib.rt:135:9
 returns : tie.Need-returns
-returns c = ?
+unfolding tickCall
+returns c = rw (told (c .before .before .numbers .ensures .0) (c .if1 .taken), c .before .before .numbers .ensures .1)
 
 -- src/lib.rt:127:1
 returns-2 : tie.Need-returns-2
-returns-2 c = ?
+unfolding tickCall
+returns-2 c = rw (told (c .before .before .numbers .ensures .0) (c .if1 .left))
 
 pub tick-spec : {M : Type 1} → statement M
 tick-spec =

@@ -1,3 +1,7 @@
+-- `script::answers::put_answer` meets its contract: each arm puts the parts of its case.
+use mir.Syntax.{w64}
+use mir.ValLaws.{toZ-ofZ}
+use Rattle.script.specs.Answer.{placeAfterAll, allPut}
 use borrow.Author.Needs.{needs}
 use Rattle.script.proofs.answers.put_answer.Statement.{statement}
 use Rattle.script.proofs.answers.put_answer.Tie as tie
@@ -104,7 +108,8 @@ put-total-requires c κs = search needs
 
 -- src/answers.rt:72:1
 returns : tie.Need-returns
-returns c = ?
+unfolding placeAfterAll allPut
+returns c = (rw (c .enum-told .given .1), rw (c .enum-told .given .1))
 
 -- src/answers.rt:72:1
 same-length : tie.Need-same-length
@@ -112,7 +117,11 @@ same-length c = search needs
 
 -- src/answers.rt:72:1
 returns-2 : tie.Need-returns-2
-returns-2 c = ?
+unfolding placeAfterAll allPut
+returns-2 c =
+    let e = c .before .before .put-bytes .ensures in
+    let t = c .before .before .before .before .before .enum-told2 .given .1 in
+    (rw t (e .0), rw t (e .1))
 
 -- src/answers.rt:72:1
 same-length-2 : tie.Need-same-length-2
@@ -120,7 +129,11 @@ same-length-2 c = search needs
 
 -- src/answers.rt:72:1
 returns-3 : tie.Need-returns-3
-returns-3 c = ?
+unfolding placeAfterAll allPut
+returns-3 c =
+    let e = c .before .before .put-bytes2 .ensures in
+    let t = c .before .before .before .before .before .enum-told3 .given .1 in
+    (rw t (e .0), rw t (e .1))
 
 -- src/answers.rt:72:1
 same-length-3 : tie.Need-same-length-3
@@ -128,7 +141,11 @@ same-length-3 c = search needs
 
 -- src/answers.rt:72:1
 returns-4 : tie.Need-returns-4
-returns-4 c = ?
+unfolding placeAfterAll allPut
+returns-4 c =
+    let e = c .before .before .put-refused .ensures in
+    let t = c .before .before .before .before .before .answer .given .1 in
+    (rw t (e .0), rw t (e .1))
 
 -- src/answers.rt:72:1
 same-length-4 : tie.Need-same-length-4
@@ -136,7 +153,11 @@ same-length-4 c = search needs
 
 -- src/answers.rt:72:1
 returns-5 : tie.Need-returns-5
-returns-5 c = ?
+unfolding placeAfterAll allPut
+returns-5 c =
+    let e = c .before .before .put-position .ensures in
+    let t = c .before .before .before .before .before .answer2 .given .1 in
+    (rw t (e .0), rw t (e .1))
 
 -- src/answers.rt:72:1
 same-length-5 : tie.Need-same-length-5
@@ -144,7 +165,11 @@ same-length-5 c = search needs
 
 -- src/answers.rt:72:1
 returns-6 : tie.Need-returns-6
-returns-6 c = ?
+unfolding placeAfterAll allPut
+returns-6 c =
+    let e = c .before .before .put-bytes3 .ensures in
+    let t = c .before .before .before .before .before .enum-told4 .given .1 in
+    (rw t (e .0), rw t (e .1))
 
 -- src/answers.rt:72:1
 same-length-6 : tie.Need-same-length-6
@@ -152,7 +177,11 @@ same-length-6 c = search needs
 
 -- src/answers.rt:72:1
 returns-7 : tie.Need-returns-7
-returns-7 c = ?
+unfolding placeAfterAll allPut
+returns-7 c =
+    let e = c .before .before .put-bytes4 .ensures in
+    let t = c .before .before .before .before .before .enum-told5 .given .1 in
+    (rw t (e .0), rw t (e .1))
 
 -- src/answers.rt:72:1
 same-length-7 : tie.Need-same-length-7
@@ -160,7 +189,11 @@ same-length-7 c = search needs
 
 -- src/answers.rt:72:1
 returns-8 : tie.Need-returns-8
-returns-8 c = ?
+unfolding placeAfterAll allPut
+returns-8 c =
+    let e = c .before .before .put-words .ensures in
+    let t = c .before .before .before .before .before .answer3 .given .1 in
+    (rw t (e .0), rw t (e .1))
 
 -- src/answers.rt:72:1
 same-length-8 : tie.Need-same-length-8
@@ -168,7 +201,11 @@ same-length-8 c = search needs
 
 -- src/answers.rt:72:1
 returns-9 : tie.Need-returns-9
-returns-9 c = ?
+unfolding placeAfterAll allPut
+returns-9 c =
+    let e = c .before .before .put-bytes5 .ensures in
+    let t = c .before .before .before .before .enum-told6 .given .1 in
+    (rw t (e .0), rw t (e .1))
 
 -- src/answers.rt:72:1
 same-length-9 : tie.Need-same-length-9
@@ -176,7 +213,12 @@ same-length-9 c = search needs
 
 -- src/answers.rt:72:1
 returns-10 : tie.Need-returns-10
-returns-10 c = ?
+unfolding placeAfterAll allPut
+returns-10 c =
+    let t = c .before .before .before .before .before .answer4 .given in
+    let z = toZ-ofZ w64 (t .0 .0) (record { sfits = c .before .before .before .before .known-told4 .given .0 .1 }) in
+    let e = rw z at (c .before .before .put-total .ensures) in
+    (rw (t .1) (e .0), rw (t .1) (e .1))
 
 pub put-answer-spec : {M : Type 1} → statement M
 put-answer-spec =
