@@ -84,3 +84,17 @@ commandOf line =
     (cond (isEmpty (wordsOf line)) Command.Nothing
     (cond (eqb (getD line 0 0) 35) Command.Nothing
     (callOf (nameOf (firstOf (wordsOf line))) (restOf (wordsOf line)))))
+
+-- how many bytes the call lends: the telegram's, or the buffer's; 0 of any other call
+abbrev pub lengthOf : Command → ℕ
+lengthOf Command.Nothing = 0
+lengthOf Command.Error = 0
+lengthOf Command.Factory = 0
+lengthOf (Command.Tick fault x s y t) = 0
+lengthOf (Command.Telegram input n) = n
+lengthOf (Command.Write block parameter a b) = 0
+lengthOf Command.Warm = 0
+lengthOf (Command.Read block parameter) = 0
+lengthOf (Command.Image n) = n
+lengthOf (Command.Part block n) = n
+lengthOf Command.Total = 0

@@ -3,16 +3,19 @@ use Prim.Native.Nat.{ℕ, zero, suc, _+_, _-_, _≤_, _<_}
 use native.Mathlib.Numerals.{add-one}
 use native.Mathlib.Omega.{arith}
 use mathlib.Core.Path.{_≡_, refl, sym, _∙_, ap}
-use mathlib.Core.Bool.{Bool, true, false, _&&_, and-false}
+use mathlib.Core.Bool.{Bool, true, false, cond, _&&_, and-false}
 use mathlib.Core.List.{List, [], _∷_, _++_, append-nil}
-use lib.ListN.{length, getD, take, drop, set, drop-of-length-le, length-take, length-drop}
+use lib.ListN.{length, getD, take, drop, set, replicate, drop-of-length-le, length-take, length-drop}
 use lib.Seq.{drop-cons, take-suc, take-suc-set, take-all, append-snoc, getD-drop}
-use lib.Dec.{eqb, ltb}
+use lib.Dec.{leb, eqb, ltb}
 use borrow.Author.Tests.{eq-eqb, ne-eqb, eqb-true, eqb-false, ltb-true, ltb-false, leb-true}
 use Rattle.text.specs.declared.Number.{Number}
 use Rattle.text.specs.declared.Number.the-variants.{Value, Not}
 use Rattle.text.specs.Place.{placeAfter, bytesPut}
 use Rattle.text.specs.Digits.{hexByte}
+use Rattle.script.specs.declared.Name.{Name}
+use Rattle.script.specs.declared.Command.{Command}
+use Rattle.script.specs.Command.{nameOf, valueAt, tickCall, telegramCall, writeCall, readCall, imageCall, partCall, callOf, commandOf, lengthOf}
 use Rattle.script.specs.Answer.{allPut, placeAfterAll, rowParts}
 use Rattle.script.specs.Words.{some, wordsAfter, wordsOf, isEmpty, firstOf, restOf, between, NextWord, numberOf, upTo, valueOf, fitting, eachOf, valuesOf, sameBytes}
 
@@ -192,3 +195,71 @@ unfolding fitting eachOf
 fitting-within [] ws k e h = absurd (omega arith)
 fitting-within (l ∷ ls) ws zero e h = value-within l (numberOf (firstOf ws)) (both-true (upTo l (numberOf (firstOf ws))) (fitting ls (restOf ws)) e .0)
 fitting-within (l ∷ ls) ws (suc k) e h = fitting-within ls (restOf ws) k (both-true (upTo l (numberOf (firstOf ws))) (fitting ls (restOf ws)) e .1) (omega arith)
+
+-- ---- lengths
+
+-- by a test, one command or another
+by-test : (t : Bool) (a b : Command) → (t ≡ true → lengthOf a ≤ 64) → lengthOf b ≤ 64 → lengthOf (cond t a b) ≤ 64
+by-test true a b h k = h refl
+by-test false a b h k = k
+
+-- a call that lends no bytes, or `error`
+no-bytes : (t : Bool) (a : Command) → lengthOf a ≡ 0 → lengthOf (cond t a Command.Error) ≤ 64
+no-bytes t a e = by-test t a Command.Error (λ _. omega arith) (omega arith)
+
+tick-within : (ws : List (List ℕ)) → lengthOf (tickCall ws) ≤ 64
+unfolding tickCall
+tick-within ws =
+    no-bytes (fitting (1 ∷ 4294967295 ∷ 255 ∷ 4294967295 ∷ 255 ∷ []) ws)
+    (Command.Tick (eqb (valueAt 5 ws 0) 1) (valueAt 5 ws 1) (valueAt 5 ws 2) (valueAt 5 ws 3) (valueAt 5 ws 4)) refl
+
+telegram-within : (ws : List (List ℕ)) → lengthOf (telegramCall ws) ≤ 64
+unfolding telegramCall
+telegram-within ws =
+    let n = length ws in
+    by-test (leb 1 n && leb n 65 && fitting (replicate n 255) ws) (Command.Telegram (valueAt n ws 0) (n - 1)) Command.Error
+    (λ e. let h = leb-true n 65 (both-true (leb 1 n) (leb n 65) (both-true (leb 1 n && leb n 65) (fitting (replicate n 255) ws) e .0) .1) in omega arith)
+    (omega arith)
+
+write-within : (ws : List (List ℕ)) → lengthOf (writeCall ws) ≤ 64
+unfolding writeCall
+write-within ws =
+    no-bytes (fitting (255 ∷ 255 ∷ 4294967295 ∷ 4294967295 ∷ []) ws) (Command.Write (valueAt 4 ws 0) (valueAt 4 ws 1) (valueAt 4 ws 2) (valueAt 4 ws 3)) refl
+
+read-within : (ws : List (List ℕ)) → lengthOf (readCall ws) ≤ 64
+unfolding readCall
+read-within ws = no-bytes (fitting (255 ∷ 255 ∷ []) ws) (Command.Read (valueAt 2 ws 0) (valueAt 2 ws 1)) refl
+
+image-within : (ws : List (List ℕ)) → lengthOf (imageCall ws) ≤ 64
+unfolding imageCall
+image-within ws =
+    by-test (fitting (64 ∷ []) ws) (Command.Image (valueAt 1 ws 0)) Command.Error (λ e. fitting-within (64 ∷ []) ws 0 e (omega arith)) (omega arith)
+
+part-within : (ws : List (List ℕ)) → lengthOf (partCall ws) ≤ 64
+unfolding partCall
+part-within ws =
+    by-test (fitting (255 ∷ 64 ∷ []) ws) (Command.Part (valueAt 2 ws 0) (valueAt 2 ws 1)) Command.Error (λ e. fitting-within (255 ∷ 64 ∷ []) ws 1 e (omega arith)) (omega arith)
+
+call-within : (name : Name) (ws : List (List ℕ)) → lengthOf (callOf name ws) ≤ 64
+unfolding callOf
+call-within Name.Factory ws = no-bytes (isEmpty ws) Command.Factory refl
+call-within Name.Tick ws = tick-within ws
+call-within Name.Telegram ws = telegram-within ws
+call-within Name.Write ws = write-within ws
+call-within Name.Warm ws = no-bytes (isEmpty ws) Command.Warm refl
+call-within Name.Read ws = read-within ws
+call-within Name.Image ws = image-within ws
+call-within Name.Part ws = part-within ws
+call-within Name.Total ws = no-bytes (isEmpty ws) Command.Total refl
+call-within Name.Other ws = omega arith
+
+-- "A length: 0 to 64.": so too the number of a telegram's bytes
+pub length-within : (line : List ℕ) → lengthOf (commandOf line) ≤ 64
+unfolding commandOf
+length-within line =
+    let ws = wordsOf line in
+    let d = callOf (nameOf (firstOf ws)) (restOf ws) in
+    let c = cond (eqb (getD line 0 0) 35) Command.Nothing d in
+    by-test (ltb 4096 (length line)) Command.Error (cond (isEmpty ws) Command.Nothing c) (λ _. omega arith)
+    (by-test (isEmpty ws) Command.Nothing c (λ _. omega arith)
+    (by-test (eqb (getD line 0 0) 35) Command.Nothing d (λ _. omega arith) (call-within (nameOf (firstOf ws)) (restOf ws))))
