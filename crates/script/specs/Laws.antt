@@ -101,6 +101,7 @@ next-word line at from to h k s e p q = go (eqb from to) refl
   where
     empty : from ≡ to → wordsOf (drop at line) ≡ []
     empty f = sym p ∙ no-words line from (ended line from s (rw (← f) at e))
+
     go : (t : Bool) → eqb from to ≡ t → NextWord line at from to
     go true t =
         let f = eqb-true from to t in

@@ -3,138 +3,100 @@ use Rattle.script.specs.Command.{callOf}
 use borrow.Author.Needs.{needs}
 use Rattle.script.proofs.call.Statement.{statement}
 use Rattle.script.proofs.call.Tie as tie
-use Rattle.script.proofs.call.Reads as reads
-use Rattle.script.proofs.call.Lts as lts
-use Rattle.script.proofs.alone.Reads as alone-reads
-use Rattle.script.proofs.image.Reads as image-reads
-use Rattle.script.proofs.part.Reads as part-reads
-use Rattle.script.proofs.read.Reads as read-reads
-use Rattle.script.proofs.telegram.Reads as telegram-reads
-use Rattle.script.proofs.tick.Reads as tick-reads
-use Rattle.script.proofs.write.Reads as write-reads
 
--- src/lib.rt:236:42
 enum-told : tie.Need-enum-told
 enum-told c = search needs
 
--- src/lib.rt:236:26
 alone-requires : tie.Need-alone-requires
 alone-requires c κs = search needs
 
--- src/lib.rt:237:23
 enum-told-2 : tie.Need-enum-told-2
 enum-told-2 c = search needs
 
--- src/lib.rt:237:23
 tick-requires : tie.Need-tick-requires
 tick-requires c κs = search needs
 
--- src/lib.rt:238:27
 enum-told-3 : tie.Need-enum-told-3
 enum-told-3 c = search needs
 
--- src/lib.rt:238:27
 telegram-requires : tie.Need-telegram-requires
 telegram-requires c κs = search needs
 
--- src/lib.rt:239:24
 enum-told-4 : tie.Need-enum-told-4
 enum-told-4 c = search needs
 
--- src/lib.rt:239:24
 write-requires : tie.Need-write-requires
 write-requires c κs = search needs
 
--- src/lib.rt:240:39
 enum-told-5 : tie.Need-enum-told-5
 enum-told-5 c = search needs
 
--- src/lib.rt:240:23
 alone-requires-2 : tie.Need-alone-requires-2
 alone-requires-2 c κs = search needs
 
--- src/lib.rt:241:23
 enum-told-6 : tie.Need-enum-told-6
 enum-told-6 c = search needs
 
--- src/lib.rt:241:23
 read-requires : tie.Need-read-requires
 read-requires c κs = search needs
 
--- src/lib.rt:242:24
 enum-told-7 : tie.Need-enum-told-7
 enum-told-7 c = search needs
 
--- src/lib.rt:242:24
 image-requires : tie.Need-image-requires
 image-requires c κs = search needs
 
--- src/lib.rt:243:23
 enum-told-8 : tie.Need-enum-told-8
 enum-told-8 c = search needs
 
--- src/lib.rt:243:23
 part-requires : tie.Need-part-requires
 part-requires c κs = search needs
 
--- src/lib.rt:244:40
 enum-told-9 : tie.Need-enum-told-9
 enum-told-9 c = search needs
 
--- src/lib.rt:244:24
 alone-requires-3 : tie.Need-alone-requires-3
 alone-requires-3 c κs = search needs
 
--- src/lib.rt:245:24
 enum-told-10 : tie.Need-enum-told-10
 enum-told-10 c = search needs
 
--- src/lib.rt:231:1
 returns : tie.Need-returns
 unfolding callOf
 returns c = rw (c .alone .ensures, c .before .enum-told .given .1)
 
--- src/lib.rt:231:1
 returns-2 : tie.Need-returns-2
 unfolding callOf
 returns-2 c = rw (c .tick .ensures, c .before .enum-told2 .given .1)
 
--- src/lib.rt:231:1
 returns-3 : tie.Need-returns-3
 unfolding callOf
 returns-3 c = rw (c .telegram .ensures, c .before .enum-told3 .given .1)
 
--- src/lib.rt:231:1
 returns-4 : tie.Need-returns-4
 unfolding callOf
 returns-4 c = rw (c .write .ensures, c .before .enum-told4 .given .1)
 
--- src/lib.rt:231:1
 returns-5 : tie.Need-returns-5
 unfolding callOf
 returns-5 c = rw (c .alone2 .ensures, c .before .enum-told5 .given .1)
 
--- src/lib.rt:231:1
 returns-6 : tie.Need-returns-6
 unfolding callOf
 returns-6 c = rw (c .read .ensures, c .before .enum-told6 .given .1)
 
--- src/lib.rt:231:1
 returns-7 : tie.Need-returns-7
 unfolding callOf
 returns-7 c = rw (c .image .ensures, c .before .enum-told7 .given .1)
 
--- src/lib.rt:231:1
 returns-8 : tie.Need-returns-8
 unfolding callOf
 returns-8 c = rw (c .part .ensures, c .before .enum-told8 .given .1)
 
--- src/lib.rt:231:1
 returns-9 : tie.Need-returns-9
 unfolding callOf
 returns-9 c = rw (c .alone3 .ensures, c .before .enum-told9 .given .1)
 
--- src/lib.rt:231:1
 returns-10 : tie.Need-returns-10
 unfolding callOf
 returns-10 c = rw (c .enum-told10 .given .1)

@@ -4,47 +4,35 @@ use Rattle.script.specs.Command.{nameOf}
 use borrow.Author.Needs.{needs}
 use Rattle.script.proofs.name_of.Statement.{statement}
 use Rattle.script.proofs.name_of.Tie as tie
-use Rattle.script.proofs.name_of.Reads as reads
-use Rattle.script.proofs.name_of.Lts as lts
-use Rattle.script.proofs.words.same.Reads as same-reads
 
--- src/lib.rt:85:26
 slice-aggregate-same : tie.Need-slice-aggregate-same
 slice-aggregate-same c = search needs
 
--- src/lib.rt:85:8
 same-requires : tie.Need-same-requires
 same-requires c κs = search needs
 
--- src/lib.rt:86:9
 returns : tie.Need-returns
 unfolding nameOf
 returns c = rw (told (c .before .same .ensures) (c .if1 .taken))
 
--- src/lib.rt:88:26
 slice-aggregate-same-2 : tie.Need-slice-aggregate-same-2
 slice-aggregate-same-2 c = search needs
 
--- src/lib.rt:88:8
 same-requires-2 : tie.Need-same-requires-2
 same-requires-2 c κs = search needs
 
--- src/lib.rt:89:9
 returns-2 : tie.Need-returns-2
 unfolding nameOf
 returns-2 c =
     let c1 = c .before .before .before in
     rw (told (c1 .before .same .ensures) (c1 .if1 .left), told (c .before .same2 .ensures) (c .if2 .taken))
 
--- src/lib.rt:91:26
 slice-aggregate-same-3 : tie.Need-slice-aggregate-same-3
 slice-aggregate-same-3 c = search needs
 
--- src/lib.rt:91:8
 same-requires-3 : tie.Need-same-requires-3
 same-requires-3 c κs = search needs
 
--- src/lib.rt:92:9
 returns-3 : tie.Need-returns-3
 unfolding nameOf
 returns-3 c =
@@ -52,15 +40,12 @@ returns-3 c =
     let c1 = c2 .before .before .before in
     rw (told (c1 .before .same .ensures) (c1 .if1 .left), told (c2 .before .same2 .ensures) (c2 .if2 .left), told (c .before .same3 .ensures) (c .if3 .taken))
 
--- src/lib.rt:94:26
 slice-aggregate-same-4 : tie.Need-slice-aggregate-same-4
 slice-aggregate-same-4 c = search needs
 
--- src/lib.rt:94:8
 same-requires-4 : tie.Need-same-requires-4
 same-requires-4 c κs = search needs
 
--- src/lib.rt:95:9
 returns-4 : tie.Need-returns-4
 unfolding nameOf
 returns-4 c =
@@ -69,15 +54,12 @@ returns-4 c =
     let c1 = c2 .before .before .before in
     rw (told (c1 .before .same .ensures) (c1 .if1 .left), told (c2 .before .same2 .ensures) (c2 .if2 .left), told (c3 .before .same3 .ensures) (c3 .if3 .left), told (c .before .same4 .ensures) (c .if4 .taken))
 
--- src/lib.rt:97:26
 slice-aggregate-same-5 : tie.Need-slice-aggregate-same-5
 slice-aggregate-same-5 c = search needs
 
--- src/lib.rt:97:8
 same-requires-5 : tie.Need-same-requires-5
 same-requires-5 c κs = search needs
 
--- src/lib.rt:98:9
 returns-5 : tie.Need-returns-5
 unfolding nameOf
 returns-5 c =
@@ -87,15 +69,12 @@ returns-5 c =
     let c1 = c2 .before .before .before in
     rw (told (c1 .before .same .ensures) (c1 .if1 .left), told (c2 .before .same2 .ensures) (c2 .if2 .left), told (c3 .before .same3 .ensures) (c3 .if3 .left), told (c4 .before .same4 .ensures) (c4 .if4 .left), told (c .before .same5 .ensures) (c .if5 .taken))
 
--- src/lib.rt:100:26
 slice-aggregate-same-6 : tie.Need-slice-aggregate-same-6
 slice-aggregate-same-6 c = search needs
 
--- src/lib.rt:100:8
 same-requires-6 : tie.Need-same-requires-6
 same-requires-6 c κs = search needs
 
--- src/lib.rt:101:9
 returns-6 : tie.Need-returns-6
 unfolding nameOf
 returns-6 c =
@@ -106,15 +85,12 @@ returns-6 c =
     let c1 = c2 .before .before .before in
     rw (told (c1 .before .same .ensures) (c1 .if1 .left), told (c2 .before .same2 .ensures) (c2 .if2 .left), told (c3 .before .same3 .ensures) (c3 .if3 .left), told (c4 .before .same4 .ensures) (c4 .if4 .left), told (c5 .before .same5 .ensures) (c5 .if5 .left), told (c .before .same6 .ensures) (c .if6 .taken))
 
--- src/lib.rt:103:26
 slice-aggregate-same-7 : tie.Need-slice-aggregate-same-7
 slice-aggregate-same-7 c = search needs
 
--- src/lib.rt:103:8
 same-requires-7 : tie.Need-same-requires-7
 same-requires-7 c κs = search needs
 
--- src/lib.rt:104:9
 returns-7 : tie.Need-returns-7
 unfolding nameOf
 returns-7 c =
@@ -126,15 +102,12 @@ returns-7 c =
     let c1 = c2 .before .before .before in
     rw (told (c1 .before .same .ensures) (c1 .if1 .left), told (c2 .before .same2 .ensures) (c2 .if2 .left), told (c3 .before .same3 .ensures) (c3 .if3 .left), told (c4 .before .same4 .ensures) (c4 .if4 .left), told (c5 .before .same5 .ensures) (c5 .if5 .left), told (c6 .before .same6 .ensures) (c6 .if6 .left), told (c .before .same7 .ensures) (c .if7 .taken))
 
--- src/lib.rt:106:26
 slice-aggregate-same-8 : tie.Need-slice-aggregate-same-8
 slice-aggregate-same-8 c = search needs
 
--- src/lib.rt:106:8
 same-requires-8 : tie.Need-same-requires-8
 same-requires-8 c κs = search needs
 
--- src/lib.rt:107:9
 returns-8 : tie.Need-returns-8
 unfolding nameOf
 returns-8 c =
@@ -147,15 +120,12 @@ returns-8 c =
     let c1 = c2 .before .before .before in
     rw (told (c1 .before .same .ensures) (c1 .if1 .left), told (c2 .before .same2 .ensures) (c2 .if2 .left), told (c3 .before .same3 .ensures) (c3 .if3 .left), told (c4 .before .same4 .ensures) (c4 .if4 .left), told (c5 .before .same5 .ensures) (c5 .if5 .left), told (c6 .before .same6 .ensures) (c6 .if6 .left), told (c7 .before .same7 .ensures) (c7 .if7 .left), told (c .before .same8 .ensures) (c .if8 .taken))
 
--- src/lib.rt:109:26
 slice-aggregate-same-9 : tie.Need-slice-aggregate-same-9
 slice-aggregate-same-9 c = search needs
 
--- src/lib.rt:109:8
 same-requires-9 : tie.Need-same-requires-9
 same-requires-9 c κs = search needs
 
--- src/lib.rt:110:9
 returns-9 : tie.Need-returns-9
 unfolding nameOf
 returns-9 c =
@@ -169,7 +139,6 @@ returns-9 c =
     let c1 = c2 .before .before .before in
     rw (told (c1 .before .same .ensures) (c1 .if1 .left), told (c2 .before .same2 .ensures) (c2 .if2 .left), told (c3 .before .same3 .ensures) (c3 .if3 .left), told (c4 .before .same4 .ensures) (c4 .if4 .left), told (c5 .before .same5 .ensures) (c5 .if5 .left), told (c6 .before .same6 .ensures) (c6 .if6 .left), told (c7 .before .same7 .ensures) (c7 .if7 .left), told (c8 .before .same8 .ensures) (c8 .if8 .left), told (c .before .same9 .ensures) (c .if9 .taken))
 
--- src/lib.rt:82:1
 returns-10 : tie.Need-returns-10
 unfolding nameOf
 returns-10 c =

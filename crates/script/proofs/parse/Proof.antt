@@ -5,60 +5,44 @@ use Rattle.script.specs.Command.{commandOf}
 use borrow.Author.Needs.{needs}
 use Rattle.script.proofs.parse.Statement.{statement}
 use Rattle.script.proofs.parse.Tie as tie
-use Rattle.script.proofs.parse.Reads as reads
-use Rattle.script.proofs.parse.Lts as lts
-use Rattle.script.proofs.call.Reads as call-reads
-use Rattle.script.proofs.name_of.Reads as name-of-reads
-use Rattle.script.proofs.words.next_word.Reads as next-word-reads
 
--- src/lib.rt:255:9
 returns : tie.Need-returns
 unfolding commandOf
 returns c = rw (c .if1 .taken)
 
--- src/lib.rt:257:9
 next-word-requires : tie.Need-next-word-requires
 next-word-requires c κs = search needs
 
--- src/lib.rt:261:9
 returns-2 : tie.Need-returns-2
 unfolding commandOf
 returns-2 c =
     let w = c .before .next-word .ensures in
     rw (c .before .before .if1 .left, told (w .none) (eq-eqb _ _ (c .if2 .taken)))
 
--- src/lib.rt:263:18
 shared-slice-read-remark : tie.Need-shared-slice-read-remark
 shared-slice-read-remark c = search needs
 
--- src/lib.rt:265:9
 returns-3 : tie.Need-returns-3
 unfolding commandOf
 returns-3 c =
     let w = c .before .before .before .next-word .ensures in
     rw (c .before .before .before .before .if1 .left, told (w .none) (ne-eqb _ _ (c .before .before .if2 .left)), c .if3 .taken)
 
--- src/lib.rt:267:24
 sub-name-of : tie.Need-sub-name-of
 sub-name-of c = search needs
 
--- src/lib.rt:267:24
 part-name-of-start : tie.Need-part-name-of-start
 part-name-of-start c = search needs
 
--- src/lib.rt:267:24
 part-name-of-end : tie.Need-part-name-of-end
 part-name-of-end c = search needs
 
--- src/lib.rt:267:9
 name-of-requires : tie.Need-name-of-requires
 name-of-requires c κs = search needs
 
--- src/lib.rt:268:5
 call-requires : tie.Need-call-requires
 call-requires c κs = search needs
 
--- src/lib.rt:250:1
 returns-4 : tie.Need-returns-4
 unfolding commandOf
 returns-4 c =

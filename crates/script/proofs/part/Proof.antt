@@ -9,9 +9,6 @@ use Rattle.script.specs.Laws.{fitting-within}
 use borrow.Author.Needs.{needs}
 use Rattle.script.proofs.part.Statement.{statement}
 use Rattle.script.proofs.part.Tie as tie
-use Rattle.script.proofs.part.Reads as reads
-use Rattle.script.proofs.part.Lts as lts
-use Rattle.script.proofs.words.numbers.Reads as numbers-reads
 
 abbrev limits : List ℕ
 limits = 255 ∷ 64 ∷ []
@@ -20,36 +17,28 @@ limits = 255 ∷ 64 ∷ []
 within : (c : tie.Then1) (k : ℕ) → k < length limits → getD (c .before .before .numbers .last .1 .1 .1 .0) k 0 ≤ getD limits k 0
 within c k h = rw (c .before .before .numbers .ensures .1) (fitting-within limits _ k (told (c .before .before .numbers .ensures .0) (c .if1 .taken)) h)
 
--- src/lib.rt:220:41
 slice-aggregate-numbers : tie.Need-slice-aggregate-numbers
 slice-aggregate-numbers c = search needs
 
--- src/lib.rt:220:53
 slice-aggregate-numbers-2 : tie.Need-slice-aggregate-numbers-2
 slice-aggregate-numbers-2 c = search needs
 
--- src/lib.rt:220:9
 numbers-requires : tie.Need-numbers-requires
 numbers-requires c κs = search needs
 
--- src/lib.rt:223:20
 array-read-t13 : tie.Need-array-read-t13
 array-read-t13 c = search needs
 
--- src/lib.rt:223:20
 cast-t14 : tie.Need-cast-t14
 cast-t14 c = omega (arith, within c 0 (omega arith))
 
--- src/lib.rt:224:21
 array-read-t17 : tie.Need-array-read-t17
 array-read-t17 c = search needs
 
--- src/lib.rt:222:9
 returns : tie.Need-returns
 unfolding partCall
 returns c = rw (told (c .before .before .numbers .ensures .0) (c .if1 .taken), c .before .before .numbers .ensures .1)
 
--- src/lib.rt:215:1
 returns-2 : tie.Need-returns-2
 unfolding partCall
 returns-2 c = rw (told (c .before .before .numbers .ensures .0) (c .if1 .left))

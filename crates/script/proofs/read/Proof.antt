@@ -9,9 +9,6 @@ use Rattle.script.specs.Laws.{fitting-within}
 use borrow.Author.Needs.{needs}
 use Rattle.script.proofs.read.Statement.{statement}
 use Rattle.script.proofs.read.Tie as tie
-use Rattle.script.proofs.read.Reads as reads
-use Rattle.script.proofs.read.Lts as lts
-use Rattle.script.proofs.words.numbers.Reads as numbers-reads
 
 abbrev limits : List ℕ
 limits = 255 ∷ 255 ∷ []
@@ -20,40 +17,31 @@ limits = 255 ∷ 255 ∷ []
 within : (c : tie.Then1) (k : ℕ) → k < length limits → getD (c .before .before .numbers .last .1 .1 .1 .0) k 0 ≤ getD limits k 0
 within c k h = rw (c .before .before .numbers .ensures .1) (fitting-within limits _ k (told (c .before .before .numbers .ensures .0) (c .if1 .taken)) h)
 
--- src/lib.rt:191:41
 slice-aggregate-numbers : tie.Need-slice-aggregate-numbers
 slice-aggregate-numbers c = search needs
 
--- src/lib.rt:191:54
 slice-aggregate-numbers-2 : tie.Need-slice-aggregate-numbers-2
 slice-aggregate-numbers-2 c = search needs
 
--- src/lib.rt:191:9
 numbers-requires : tie.Need-numbers-requires
 numbers-requires c κs = search needs
 
--- src/lib.rt:194:20
 array-read-t13 : tie.Need-array-read-t13
 array-read-t13 c = search needs
 
--- src/lib.rt:194:20
 cast-t14 : tie.Need-cast-t14
 cast-t14 c = omega (arith, within c 0 (omega arith))
 
--- src/lib.rt:195:24
 array-read-t17 : tie.Need-array-read-t17
 array-read-t17 c = search needs
 
--- src/lib.rt:195:24
 cast-t18 : tie.Need-cast-t18
 cast-t18 c = omega (arith, within c 1 (omega arith))
 
--- src/lib.rt:193:9
 returns : tie.Need-returns
 unfolding readCall
 returns c = rw (told (c .before .before .numbers .ensures .0) (c .if1 .taken), c .before .before .numbers .ensures .1)
 
--- src/lib.rt:186:1
 returns-2 : tie.Need-returns-2
 unfolding readCall
 returns-2 c = rw (told (c .before .before .numbers .ensures .0) (c .if1 .left))

@@ -15,10 +15,6 @@ use Rattle.script.proofs.Told.{told}
 use borrow.Author.Needs.{needs}
 use Rattle.script.proofs.telegram.Statement.{statement}
 use Rattle.script.proofs.telegram.Tie as tie
-use Rattle.script.proofs.telegram.Reads as reads
-use Rattle.script.proofs.telegram.Lts as lts
-use Rattle.script.proofs.words.count.Reads as count-reads
-use Rattle.script.proofs.words.numbers.Reads as numbers-reads
 
 -- the first n of enough limits
 byte-limits : (n m a : ℕ) → n ≤ m → take n (replicate m a) ≡ replicate n a
@@ -48,18 +44,15 @@ fit c = rw (byte-limits (c .before .before .before .before .before .count .resul
 stored : (c : tie.After-numbers) → c .numbers .last .1 .1 .1 .0 ≡ valuesOf (c .before .before .before .before .before .count .result) (arguments (c .before .before .before .before .before .before .before))
 stored c = rw (length-take-le {A = ℕ} (c .before .before .before .before .before .count .result) (replicate 65 255) (omega arith)) at (c .numbers .ensures .1)
 
--- src/lib.rt:150:9
 count-requires : tie.Need-count-requires
 count-requires c κs = search needs
 
--- src/lib.rt:152:9
 returns : tie.Need-returns
 unfolding telegramCall
 returns c =
     let e = c .before .count .ensures in
     rw (lt-leb 1 (length (wordsOf (drop (c .before .before .before .args .at) (now (c .before .before .before .args .line))))) (omega arith))
 
--- src/lib.rt:155:9
 returns-2 : tie.Need-returns-2
 unfolding telegramCall
 returns-2 c =
@@ -67,33 +60,26 @@ returns-2 c =
     let ws = wordsOf (drop (c .before .before .before .before .args .at) (now (c .before .before .before .before .args .line))) in
     rw (le-leb 1 (length ws) (omega arith), lt-leb (length ws) 65 (omega arith))
 
--- src/lib.rt:159:41
 array-share-prefix-limits : tie.Need-array-share-prefix-limits
 array-share-prefix-limits c = search needs
 
--- src/lib.rt:159:41
 slice-aggregate-numbers : tie.Need-slice-aggregate-numbers
 slice-aggregate-numbers c = sym (length-take-le _ (replicate 65 255) (omega arith))
 
--- src/lib.rt:159:55
 array-borrow-prefix-v : tie.Need-array-borrow-prefix-v
 array-borrow-prefix-v c = search needs
 
--- src/lib.rt:159:55
 slice-aggregate-numbers-2 : tie.Need-slice-aggregate-numbers-2
 slice-aggregate-numbers-2 c = sym (length-take-le _ (replicate 65 0) (omega arith))
 
--- src/lib.rt:159:9
 numbers-requires : tie.Need-numbers-requires
 numbers-requires c κs =
     let n = c .before .before .before .before .count .result in
     (omega arith, length-take-le n (replicate 65 0) (omega arith) ∙ sym (length-take-le n (replicate 65 255) (omega arith)))
 
--- src/lib.rt:162:20
 array-read-t14 : tie.Need-array-read-t14
 array-read-t14 c = search needs
 
--- src/lib.rt:162:20
 cast-t15 : tie.Need-cast-t15
 cast-t15 c =
     let n = c .before .before .before .before .before .before .before .count .result in
@@ -102,11 +88,9 @@ cast-t15 c =
     let w = first-within n ws h (told (fit (c .before .before)) (c .if3 .taken)) in
     rw (stored (c .before .before), first-value n ws _ h) (omega arith)
 
--- src/lib.rt:163:21
 sub-t16 : tie.Need-sub-t16
 sub-t16 c = search needs
 
--- src/lib.rt:161:9
 returns-3 : tie.Need-returns-3
 unfolding telegramCall
 returns-3 c =
@@ -115,7 +99,6 @@ returns-3 c =
     let h : 1 ≤ n = omega arith in
     rw (← c .before .before .before .before .before .before .before .count .ensures, le-leb 1 n h, le-leb n 65 (omega arith), told (fit (c .before .before)) (c .if3 .taken), stored (c .before .before), first-value n ws _ h)
 
--- src/lib.rt:146:1
 returns-4 : tie.Need-returns-4
 unfolding telegramCall
 returns-4 c =

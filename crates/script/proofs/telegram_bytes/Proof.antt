@@ -2,28 +2,19 @@
 use borrow.Author.Needs.{needs}
 use Rattle.script.proofs.telegram_bytes.Statement.{statement}
 use Rattle.script.proofs.telegram_bytes.Tie as tie
-use Rattle.script.proofs.telegram_bytes.Reads as reads
-use Rattle.script.proofs.telegram_bytes.Lts as lts
-use Rattle.script.proofs.words.bytes.Reads as bytes-reads
-use Rattle.script.proofs.words.next_word.Reads as next-word-reads
 
--- src/lib.rt:275:9
 next-word-requires : tie.Need-next-word-requires
 next-word-requires c κs = search needs
 
--- src/lib.rt:276:9
 next-word-requires-2 : tie.Need-next-word-requires-2
 next-word-requires-2 c κs = search needs
 
--- src/lib.rt:277:5
 bytes-requires : tie.Need-bytes-requires
 bytes-requires c κs = search needs
 
--- src/lib.rt:272:1
 same-length : tie.Need-same-length
 same-length c = search needs
 
--- src/lib.rt:272:1
 returns : tie.Need-returns
 returns c =
     let d = c .before .before .before .before .before .next-word .ensures in

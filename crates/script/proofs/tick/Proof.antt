@@ -9,9 +9,6 @@ use Rattle.script.specs.Laws.{fitting-within}
 use borrow.Author.Needs.{needs}
 use Rattle.script.proofs.tick.Statement.{statement}
 use Rattle.script.proofs.tick.Tie as tie
-use Rattle.script.proofs.tick.Reads as reads
-use Rattle.script.proofs.tick.Lts as lts
-use Rattle.script.proofs.words.numbers.Reads as numbers-reads
 
 abbrev limits : List ℕ
 limits = 1 ∷ 4294967295 ∷ 255 ∷ 4294967295 ∷ 255 ∷ []
@@ -20,60 +17,46 @@ limits = 1 ∷ 4294967295 ∷ 255 ∷ 4294967295 ∷ 255 ∷ []
 within : (c : tie.Then1) (k : ℕ) → k < length limits → getD (c .before .before .numbers .last .1 .1 .1 .0) k 0 ≤ getD limits k 0
 within c k h = rw (c .before .before .numbers .ensures .1) (fitting-within limits _ k (told (c .before .before .numbers .ensures .0) (c .if1 .taken)) h)
 
--- src/lib.rt:132:41
 slice-aggregate-numbers : tie.Need-slice-aggregate-numbers
 slice-aggregate-numbers c = search needs
 
--- src/lib.rt:132:69
 slice-aggregate-numbers-2 : tie.Need-slice-aggregate-numbers-2
 slice-aggregate-numbers-2 c = search needs
 
--- src/lib.rt:132:9
 numbers-requires : tie.Need-numbers-requires
 numbers-requires c κs = search needs
 
--- src/lib.rt:134:21
 array-read-fault : tie.Need-array-read-fault
 array-read-fault c = search needs
 
--- src/lib.rt:137:23
 array-read-t14 : tie.Need-array-read-t14
 array-read-t14 c = search needs
 
--- src/lib.rt:137:23
 cast-t17 : tie.Need-cast-t17
 cast-t17 c = omega (arith, within c 1 (omega arith))
 
--- src/lib.rt:138:25
 array-read-t20 : tie.Need-array-read-t20
 array-read-t20 c = search needs
 
--- src/lib.rt:138:25
 cast-t21 : tie.Need-cast-t21
 cast-t21 c = omega (arith, within c 2 (omega arith))
 
--- src/lib.rt:139:23
 array-read-t24 : tie.Need-array-read-t24
 array-read-t24 c = search needs
 
--- src/lib.rt:139:23
 cast-t25 : tie.Need-cast-t25
 cast-t25 c = omega (arith, within c 3 (omega arith))
 
--- src/lib.rt:140:25
 array-read-t28 : tie.Need-array-read-t28
 array-read-t28 c = search needs
 
--- src/lib.rt:140:25
 cast-t29 : tie.Need-cast-t29
 cast-t29 c = omega (arith, within c 4 (omega arith))
 
--- src/lib.rt:135:9
 returns : tie.Need-returns
 unfolding tickCall
 returns c = rw (told (c .before .before .numbers .ensures .0) (c .if1 .taken), c .before .before .numbers .ensures .1)
 
--- src/lib.rt:127:1
 returns-2 : tie.Need-returns-2
 unfolding tickCall
 returns-2 c = rw (told (c .before .before .numbers .ensures .0) (c .if1 .left))

@@ -9,9 +9,6 @@ use Rattle.script.specs.Laws.{fitting-within}
 use borrow.Author.Needs.{needs}
 use Rattle.script.proofs.write.Statement.{statement}
 use Rattle.script.proofs.write.Tie as tie
-use Rattle.script.proofs.write.Reads as reads
-use Rattle.script.proofs.write.Lts as lts
-use Rattle.script.proofs.words.numbers.Reads as numbers-reads
 
 abbrev limits : List ℕ
 limits = 255 ∷ 255 ∷ 4294967295 ∷ 4294967295 ∷ []
@@ -20,56 +17,43 @@ limits = 255 ∷ 255 ∷ 4294967295 ∷ 4294967295 ∷ []
 within : (c : tie.Then1) (k : ℕ) → k < length limits → getD (c .before .before .numbers .last .1 .1 .1 .0) k 0 ≤ getD limits k 0
 within c k h = rw (c .before .before .numbers .ensures .1) (fitting-within limits _ k (told (c .before .before .numbers .ensures .0) (c .if1 .taken)) h)
 
--- src/lib.rt:174:41
 slice-aggregate-numbers : tie.Need-slice-aggregate-numbers
 slice-aggregate-numbers c = search needs
 
--- src/lib.rt:174:66
 slice-aggregate-numbers-2 : tie.Need-slice-aggregate-numbers-2
 slice-aggregate-numbers-2 c = search needs
 
--- src/lib.rt:174:9
 numbers-requires : tie.Need-numbers-requires
 numbers-requires c κs = search needs
 
--- src/lib.rt:177:20
 array-read-t13 : tie.Need-array-read-t13
 array-read-t13 c = search needs
 
--- src/lib.rt:177:20
 cast-t14 : tie.Need-cast-t14
 cast-t14 c = omega (arith, within c 0 (omega arith))
 
--- src/lib.rt:178:24
 array-read-t17 : tie.Need-array-read-t17
 array-read-t17 c = search needs
 
--- src/lib.rt:178:24
 cast-t18 : tie.Need-cast-t18
 cast-t18 c = omega (arith, within c 1 (omega arith))
 
--- src/lib.rt:179:20
 array-read-t21 : tie.Need-array-read-t21
 array-read-t21 c = search needs
 
--- src/lib.rt:179:20
 cast-t22 : tie.Need-cast-t22
 cast-t22 c = omega (arith, within c 2 (omega arith))
 
--- src/lib.rt:180:21
 array-read-t25 : tie.Need-array-read-t25
 array-read-t25 c = search needs
 
--- src/lib.rt:180:21
 cast-t26 : tie.Need-cast-t26
 cast-t26 c = omega (arith, within c 3 (omega arith))
 
--- src/lib.rt:176:9
 returns : tie.Need-returns
 unfolding writeCall
 returns c = rw (told (c .before .before .numbers .ensures .0) (c .if1 .taken), c .before .before .numbers .ensures .1)
 
--- src/lib.rt:169:1
 returns-2 : tie.Need-returns-2
 unfolding writeCall
 returns-2 c = rw (told (c .before .before .numbers .ensures .0) (c .if1 .left))

@@ -5,117 +5,83 @@ use Rattle.script.specs.Answer.{placeAfterAll, allPut}
 use borrow.Author.Needs.{needs}
 use Rattle.script.proofs.answers.put_answer.Statement.{statement}
 use Rattle.script.proofs.answers.put_answer.Tie as tie
-use Rattle.script.proofs.answers.put_answer.Reads as reads
-use Rattle.script.proofs.answers.put_answer.Lts as lts
-use Rattle.script.proofs.answers.put_bytes.Reads as answers-put-bytes-reads
-use Rattle.script.proofs.answers.put_position.Reads as put-position-reads
-use Rattle.script.proofs.answers.put_refused.Reads as put-refused-reads
-use Rattle.script.proofs.answers.put_total.Reads as put-total-reads
-use Rattle.script.proofs.answers.put_words.Reads as put-words-reads
-use Rattle.text.proofs.put_bytes.Reads as put-bytes-reads
 
--- src/answers.rt:77:28
 enum-told : tie.Need-enum-told
 enum-told c = search needs
 
--- src/answers.rt:78:39
 enum-told-2 : tie.Need-enum-told-2
 enum-told-2 c = search needs
 
--- src/answers.rt:78:48
 slice-aggregate-put-bytes : tie.Need-slice-aggregate-put-bytes
 slice-aggregate-put-bytes c = search needs
 
--- src/answers.rt:78:23
 put-bytes-requires : tie.Need-put-bytes-requires
 put-bytes-requires c κs = search needs
 
--- src/answers.rt:79:42
 enum-told-3 : tie.Need-enum-told-3
 enum-told-3 c = search needs
 
--- src/answers.rt:79:51
 slice-aggregate-put-bytes-2 : tie.Need-slice-aggregate-put-bytes-2
 slice-aggregate-put-bytes-2 c = search needs
 
--- src/answers.rt:79:26
 put-bytes-requires-2 : tie.Need-put-bytes-requires-2
 put-bytes-requires-2 c κs = search needs
 
--- src/answers.rt:80:25
 enum-known-answer : tie.Need-enum-known-answer
 enum-known-answer c = search needs
 
--- src/answers.rt:80:36
 put-refused-requires : tie.Need-put-refused-requires
 put-refused-requires c κs = search needs
 
--- src/answers.rt:81:26
 enum-known-answer-2 : tie.Need-enum-known-answer-2
 enum-known-answer-2 c = search needs
 
--- src/answers.rt:81:35
 put-position-requires : tie.Need-put-position-requires
 put-position-requires c κs = search needs
 
--- src/answers.rt:82:41
 enum-told-4 : tie.Need-enum-told-4
 enum-told-4 c = search needs
 
--- src/answers.rt:82:50
 slice-aggregate-put-bytes-3 : tie.Need-slice-aggregate-put-bytes-3
 slice-aggregate-put-bytes-3 c = search needs
 
--- src/answers.rt:82:25
 put-bytes-requires-3 : tie.Need-put-bytes-requires-3
 put-bytes-requires-3 c κs = search needs
 
--- src/answers.rt:83:41
 enum-told-5 : tie.Need-enum-told-5
 enum-told-5 c = search needs
 
--- src/answers.rt:83:50
 slice-aggregate-put-bytes-4 : tie.Need-slice-aggregate-put-bytes-4
 slice-aggregate-put-bytes-4 c = search needs
 
--- src/answers.rt:83:25
 put-bytes-requires-4 : tie.Need-put-bytes-requires-4
 put-bytes-requires-4 c κs = search needs
 
--- src/answers.rt:84:23
 enum-known-answer-3 : tie.Need-enum-known-answer-3
 enum-known-answer-3 c = search needs
 
--- src/answers.rt:84:41
 put-words-requires : tie.Need-put-words-requires
 put-words-requires c κs = search needs
 
--- src/answers.rt:85:36
 enum-told-6 : tie.Need-enum-told-6
 enum-told-6 c = search needs
 
--- src/answers.rt:85:26
 put-bytes-requires-5 : tie.Need-put-bytes-requires-5
 put-bytes-requires-5 c κs = search needs
 
--- src/answers.rt:86:23
 enum-known-answer-4 : tie.Need-enum-known-answer-4
 enum-known-answer-4 c = search needs
 
--- src/answers.rt:86:33
 put-total-requires : tie.Need-put-total-requires
 put-total-requires c κs = search needs
 
--- src/answers.rt:72:1
 returns : tie.Need-returns
 unfolding placeAfterAll allPut
 returns c = (rw (c .enum-told .given .1), rw (c .enum-told .given .1))
 
--- src/answers.rt:72:1
 same-length : tie.Need-same-length
 same-length c = search needs
 
--- src/answers.rt:72:1
 returns-2 : tie.Need-returns-2
 unfolding placeAfterAll allPut
 returns-2 c =
@@ -123,11 +89,9 @@ returns-2 c =
     let t = c .before .before .before .before .before .enum-told2 .given .1 in
     (rw t (e .0), rw t (e .1))
 
--- src/answers.rt:72:1
 same-length-2 : tie.Need-same-length-2
 same-length-2 c = search needs
 
--- src/answers.rt:72:1
 returns-3 : tie.Need-returns-3
 unfolding placeAfterAll allPut
 returns-3 c =
@@ -135,11 +99,9 @@ returns-3 c =
     let t = c .before .before .before .before .before .enum-told3 .given .1 in
     (rw t (e .0), rw t (e .1))
 
--- src/answers.rt:72:1
 same-length-3 : tie.Need-same-length-3
 same-length-3 c = search needs
 
--- src/answers.rt:72:1
 returns-4 : tie.Need-returns-4
 unfolding placeAfterAll allPut
 returns-4 c =
@@ -147,11 +109,9 @@ returns-4 c =
     let t = c .before .before .before .before .before .answer .given .1 in
     (rw t (e .0), rw t (e .1))
 
--- src/answers.rt:72:1
 same-length-4 : tie.Need-same-length-4
 same-length-4 c = search needs
 
--- src/answers.rt:72:1
 returns-5 : tie.Need-returns-5
 unfolding placeAfterAll allPut
 returns-5 c =
@@ -159,11 +119,9 @@ returns-5 c =
     let t = c .before .before .before .before .before .answer2 .given .1 in
     (rw t (e .0), rw t (e .1))
 
--- src/answers.rt:72:1
 same-length-5 : tie.Need-same-length-5
 same-length-5 c = search needs
 
--- src/answers.rt:72:1
 returns-6 : tie.Need-returns-6
 unfolding placeAfterAll allPut
 returns-6 c =
@@ -171,11 +129,9 @@ returns-6 c =
     let t = c .before .before .before .before .before .enum-told4 .given .1 in
     (rw t (e .0), rw t (e .1))
 
--- src/answers.rt:72:1
 same-length-6 : tie.Need-same-length-6
 same-length-6 c = search needs
 
--- src/answers.rt:72:1
 returns-7 : tie.Need-returns-7
 unfolding placeAfterAll allPut
 returns-7 c =
@@ -183,11 +139,9 @@ returns-7 c =
     let t = c .before .before .before .before .before .enum-told5 .given .1 in
     (rw t (e .0), rw t (e .1))
 
--- src/answers.rt:72:1
 same-length-7 : tie.Need-same-length-7
 same-length-7 c = search needs
 
--- src/answers.rt:72:1
 returns-8 : tie.Need-returns-8
 unfolding placeAfterAll allPut
 returns-8 c =
@@ -195,11 +149,9 @@ returns-8 c =
     let t = c .before .before .before .before .before .answer3 .given .1 in
     (rw t (e .0), rw t (e .1))
 
--- src/answers.rt:72:1
 same-length-8 : tie.Need-same-length-8
 same-length-8 c = search needs
 
--- src/answers.rt:72:1
 returns-9 : tie.Need-returns-9
 unfolding placeAfterAll allPut
 returns-9 c =
@@ -207,11 +159,9 @@ returns-9 c =
     let t = c .before .before .before .before .enum-told6 .given .1 in
     (rw t (e .0), rw t (e .1))
 
--- src/answers.rt:72:1
 same-length-9 : tie.Need-same-length-9
 same-length-9 c = search needs
 
--- src/answers.rt:72:1
 returns-10 : tie.Need-returns-10
 unfolding placeAfterAll allPut
 returns-10 c =

@@ -8,36 +8,25 @@ use Rattle.script.specs.Laws.{put-append, place-append}
 use borrow.Author.Needs.{needs}
 use Rattle.script.proofs.answers.put_bytes.Statement.{statement}
 use Rattle.script.proofs.answers.put_bytes.Tie as tie
-use Rattle.script.proofs.answers.put_bytes.Reads as reads
-use Rattle.script.proofs.answers.put_bytes.Lts as lts
-use Rattle.script.proofs.answers.put_row.Reads as put-row-reads
-use Rattle.text.proofs.put_bytes.Reads as put-bytes-reads
 
--- src/answers.rt:27:38
 slice-aggregate-put-bytes : tie.Need-slice-aggregate-put-bytes
 slice-aggregate-put-bytes c = search needs
 
--- src/answers.rt:27:9
 put-bytes-requires : tie.Need-put-bytes-requires
 put-bytes-requires c κs = search needs
 
--- src/answers.rt:28:9
 put-row-requires : tie.Need-put-row-requires
 put-row-requires c κs = search needs
 
--- src/answers.rt:29:29
 slice-aggregate-put-bytes-2 : tie.Need-slice-aggregate-put-bytes-2
 slice-aggregate-put-bytes-2 c = search needs
 
--- src/answers.rt:29:5
 put-bytes-requires-2 : tie.Need-put-bytes-requires-2
 put-bytes-requires-2 c κs = search needs
 
--- src/answers.rt:23:1
 same-length : tie.Need-same-length
 same-length c = search needs
 
--- src/answers.rt:23:1
 returns : tie.Need-returns
 unfolding placeAfterAll allPut
 returns c =

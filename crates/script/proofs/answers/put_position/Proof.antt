@@ -3,36 +3,25 @@ use Rattle.script.specs.Answer.{placeAfterAll, allPut}
 use borrow.Author.Needs.{needs}
 use Rattle.script.proofs.answers.put_position.Statement.{statement}
 use Rattle.script.proofs.answers.put_position.Tie as tie
-use Rattle.script.proofs.answers.put_position.Reads as reads
-use Rattle.script.proofs.answers.put_position.Lts as lts
-use Rattle.text.proofs.put_bytes.Reads as put-bytes-reads
-use Rattle.text.proofs.put_word.Reads as put-word-reads
 
--- src/answers.rt:45:38
 slice-aggregate-put-bytes : tie.Need-slice-aggregate-put-bytes
 slice-aggregate-put-bytes c = search needs
 
--- src/answers.rt:45:9
 put-bytes-requires : tie.Need-put-bytes-requires
 put-bytes-requires c κs = search needs
 
--- src/answers.rt:46:9
 put-word-requires : tie.Need-put-word-requires
 put-word-requires c κs = search needs
 
--- src/answers.rt:47:29
 slice-aggregate-put-bytes-2 : tie.Need-slice-aggregate-put-bytes-2
 slice-aggregate-put-bytes-2 c = search needs
 
--- src/answers.rt:47:5
 put-bytes-requires-2 : tie.Need-put-bytes-requires-2
 put-bytes-requires-2 c κs = search needs
 
--- src/answers.rt:41:1
 same-length : tie.Need-same-length
 same-length c = search needs
 
--- src/answers.rt:41:1
 returns : tie.Need-returns
 unfolding placeAfterAll allPut
 returns c = (cc, cc)

@@ -3,36 +3,25 @@ use Rattle.script.specs.Answer.{placeAfterAll, allPut}
 use borrow.Author.Needs.{needs}
 use Rattle.script.proofs.answers.put_refused.Statement.{statement}
 use Rattle.script.proofs.answers.put_refused.Tie as tie
-use Rattle.script.proofs.answers.put_refused.Reads as reads
-use Rattle.script.proofs.answers.put_refused.Lts as lts
-use Rattle.text.proofs.put_bytes.Reads as put-bytes-reads
-use Rattle.text.proofs.put_decimal.Reads as put-decimal-reads
 
--- src/answers.rt:36:38
 slice-aggregate-put-bytes : tie.Need-slice-aggregate-put-bytes
 slice-aggregate-put-bytes c = search needs
 
--- src/answers.rt:36:9
 put-bytes-requires : tie.Need-put-bytes-requires
 put-bytes-requires c κs = search needs
 
--- src/answers.rt:37:9
 put-decimal-requires : tie.Need-put-decimal-requires
 put-decimal-requires c κs = search needs
 
--- src/answers.rt:38:29
 slice-aggregate-put-bytes-2 : tie.Need-slice-aggregate-put-bytes-2
 slice-aggregate-put-bytes-2 c = search needs
 
--- src/answers.rt:38:5
 put-bytes-requires-2 : tie.Need-put-bytes-requires-2
 put-bytes-requires-2 c κs = search needs
 
--- src/answers.rt:32:1
 same-length : tie.Need-same-length
 same-length c = search needs
 
--- src/answers.rt:32:1
 returns : tie.Need-returns
 unfolding placeAfterAll allPut
 returns c = (cc, cc)

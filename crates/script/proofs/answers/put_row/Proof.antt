@@ -9,10 +9,6 @@ use Rattle.script.specs.Answer.{placeAfterAll, allPut, rowParts}
 use Rattle.script.specs.Laws.{row-at, row-ended}
 use Rattle.script.proofs.answers.put_row.Statement.{statement}
 use Rattle.script.proofs.answers.put_row.Tie as tie
-use Rattle.script.proofs.answers.put_row.Reads as reads
-use Rattle.script.proofs.answers.put_row.Lts as lts
-use Rattle.text.proofs.put_byte.Reads as put-byte-reads
-use Rattle.text.proofs.put_bytes.Reads as put-bytes-reads
 
 abbrev Inv-loop : tie.InvT-loop
 Inv-loop buf₀ at row next₀ i₀ t7 buf next i =
@@ -24,35 +20,27 @@ Inv-loop buf₀ at row next₀ i₀ t7 buf next i =
 abbrev μ-loop : tie.MeasureT-loop
 μ-loop buf₀ at row next₀ i₀ t7 buf next i = length row - i
 
--- src/answers.rt:15:5
 loop-holds : tie.Need-loop-holds Inv-loop μ-loop
 loop-holds c = (omega arith, refl, refl, refl)
 
--- src/answers.rt:16:48
 slice-aggregate-put-bytes : tie.Need-slice-aggregate-put-bytes Inv-loop μ-loop
 slice-aggregate-put-bytes c = search needs
 
--- src/answers.rt:16:13
 put-bytes-requires : tie.Need-put-bytes-requires Inv-loop μ-loop
 put-bytes-requires c κs = search needs
 
--- src/answers.rt:17:43
 shared-slice-read-put-byte : tie.Need-shared-slice-read-put-byte Inv-loop μ-loop
 shared-slice-read-put-byte c = omega arith
 
--- src/answers.rt:17:9
 put-byte-requires : tie.Need-put-byte-requires Inv-loop μ-loop
 put-byte-requires c κs = search needs
 
--- src/answers.rt:18:9
 add-i : tie.Need-add-i Inv-loop μ-loop
 add-i c = omega arith
 
--- src/answers.rt:15:5
 loop-less : tie.Need-loop-less Inv-loop μ-loop
 loop-less c = omega arith
 
--- src/answers.rt:15:5
 loop-again : tie.Need-loop-again Inv-loop μ-loop
 unfolding placeAfterAll allPut
 loop-again c =
@@ -64,11 +52,9 @@ loop-again c =
     let r = row-at (now (a .row)) (l .i) h in
     (omega arith, search needs, rw (e .ensures .0, e .ensures .1, d .ensures .0, d .ensures .1) (rw r at (l .inv .2)), rw (e .ensures .0, e .ensures .1, d .ensures .0, d .ensures .1) (rw r at (l .inv .3)))
 
--- src/answers.rt:9:1
 same-length : tie.Need-same-length Inv-loop μ-loop
 same-length c = search needs
 
--- src/answers.rt:9:1
 returns : tie.Need-returns Inv-loop μ-loop
 unfolding placeAfterAll allPut
 returns c =

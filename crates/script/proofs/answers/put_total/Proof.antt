@@ -5,36 +5,25 @@ use Rattle.script.specs.Answer.{placeAfterAll, allPut}
 use borrow.Author.Needs.{needs}
 use Rattle.script.proofs.answers.put_total.Statement.{statement}
 use Rattle.script.proofs.answers.put_total.Tie as tie
-use Rattle.script.proofs.answers.put_total.Reads as reads
-use Rattle.script.proofs.answers.put_total.Lts as lts
-use Rattle.text.proofs.put_bytes.Reads as put-bytes-reads
-use Rattle.text.proofs.put_signed.Reads as put-signed-reads
 
--- src/answers.rt:65:38
 slice-aggregate-put-bytes : tie.Need-slice-aggregate-put-bytes
 slice-aggregate-put-bytes c = search needs
 
--- src/answers.rt:65:9
 put-bytes-requires : tie.Need-put-bytes-requires
 put-bytes-requires c κs = search needs
 
--- src/answers.rt:66:9
 put-signed-requires : tie.Need-put-signed-requires
 put-signed-requires c κs = search needs
 
--- src/answers.rt:67:29
 slice-aggregate-put-bytes-2 : tie.Need-slice-aggregate-put-bytes-2
 slice-aggregate-put-bytes-2 c = search needs
 
--- src/answers.rt:67:5
 put-bytes-requires-2 : tie.Need-put-bytes-requires-2
 put-bytes-requires-2 c κs = search needs
 
--- src/answers.rt:61:1
 same-length : tie.Need-same-length
 same-length c = search needs
 
--- src/answers.rt:61:1
 returns : tie.Need-returns
 unfolding placeAfterAll allPut
 returns c =

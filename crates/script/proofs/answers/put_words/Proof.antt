@@ -3,48 +3,34 @@ use Rattle.script.specs.Answer.{placeAfterAll, allPut}
 use borrow.Author.Needs.{needs}
 use Rattle.script.proofs.answers.put_words.Statement.{statement}
 use Rattle.script.proofs.answers.put_words.Tie as tie
-use Rattle.script.proofs.answers.put_words.Reads as reads
-use Rattle.script.proofs.answers.put_words.Lts as lts
-use Rattle.text.proofs.put_bytes.Reads as put-bytes-reads
-use Rattle.text.proofs.put_word.Reads as put-word-reads
 
--- src/answers.rt:54:38
 slice-aggregate-put-bytes : tie.Need-slice-aggregate-put-bytes
 slice-aggregate-put-bytes c = search needs
 
--- src/answers.rt:54:9
 put-bytes-requires : tie.Need-put-bytes-requires
 put-bytes-requires c κs = search needs
 
--- src/answers.rt:55:9
 put-word-requires : tie.Need-put-word-requires
 put-word-requires c κs = search needs
 
--- src/answers.rt:56:37
 slice-aggregate-put-bytes-2 : tie.Need-slice-aggregate-put-bytes-2
 slice-aggregate-put-bytes-2 c = search needs
 
--- src/answers.rt:56:9
 put-bytes-requires-2 : tie.Need-put-bytes-requires-2
 put-bytes-requires-2 c κs = search needs
 
--- src/answers.rt:57:9
 put-word-requires-2 : tie.Need-put-word-requires-2
 put-word-requires-2 c κs = search needs
 
--- src/answers.rt:58:29
 slice-aggregate-put-bytes-3 : tie.Need-slice-aggregate-put-bytes-3
 slice-aggregate-put-bytes-3 c = search needs
 
--- src/answers.rt:58:5
 put-bytes-requires-3 : tie.Need-put-bytes-requires-3
 put-bytes-requires-3 c κs = search needs
 
--- src/answers.rt:50:1
 same-length : tie.Need-same-length
 same-length c = search needs
 
--- src/answers.rt:50:1
 returns : tie.Need-returns
 unfolding placeAfterAll allPut
 returns c = (cc, cc)

@@ -10,11 +10,6 @@ use Rattle.script.specs.Words.{wordsOf, wordByte, bytesOf}
 use Rattle.script.specs.Laws.{filled-more, filled-all}
 use Rattle.script.proofs.words.bytes.Statement.{statement}
 use Rattle.script.proofs.words.bytes.Tie as tie
-use Rattle.script.proofs.words.bytes.Reads as reads
-use Rattle.script.proofs.words.bytes.Lts as lts
-use Rattle.script.proofs.words.low_byte.Reads as low-byte-reads
-use Rattle.script.proofs.words.next_word.Reads as next-word-reads
-use Rattle.script.proofs.words.number.Reads as number-reads
 
 abbrev Inv-loop : tie.InvT-loop
 Inv-loop line at out₀ next₀ i₀ out next i =
@@ -26,38 +21,30 @@ Inv-loop line at out₀ next₀ i₀ out next i =
 abbrev μ-loop : tie.MeasureT-loop
 μ-loop line at out₀ next₀ i₀ out next i = length out₀ - i
 
--- src/words.rt:162:5
 loop-holds : tie.Need-loop-holds Inv-loop μ-loop
 loop-holds c =
     let a = c .before .before .args in
     let e : length (now (a .out)) - 0 ≡ length (now (a .out)) = omega arith in
     (omega arith, omega arith, refl, rw e)
 
--- src/words.rt:163:13
 next-word-requires : tie.Need-next-word-requires Inv-loop μ-loop
 next-word-requires c κs = omega arith
 
--- src/words.rt:164:13
 number-requires : tie.Need-number-requires Inv-loop μ-loop
 number-requires c κs = search needs
 
--- src/words.rt:165:18
 low-byte-requires : tie.Need-low-byte-requires Inv-loop μ-loop
 low-byte-requires c κs = search needs
 
--- src/words.rt:165:9
 slice-write-out : tie.Need-slice-write-out Inv-loop μ-loop
 slice-write-out c = omega arith
 
--- src/words.rt:167:9
 add-i : tie.Need-add-i Inv-loop μ-loop
 add-i c = omega arith
 
--- src/words.rt:162:5
 loop-less : tie.Need-loop-less Inv-loop μ-loop
 loop-less c = omega arith
 
--- src/words.rt:162:5
 loop-again : tie.Need-loop-again Inv-loop μ-loop
 loop-again c =
     let l = c .before .before .before .before .loop in
@@ -67,11 +54,9 @@ loop-again c =
     let v = rw (c .before .number .ensures, w .first) at (c .low-byte .ensures) in
     (omega arith, w .within, simp length-set (l .inv .2), rw (w .rest) (filled-more wordByte (l .out) (length (now (a .out))) (l .i) (c .low-byte .result) ws (omega arith) (omega arith) v ∙ l .inv .3))
 
--- src/words.rt:156:1
 same-length : tie.Need-same-length Inv-loop μ-loop
 same-length c = search needs
 
--- src/words.rt:156:1
 returns : tie.Need-returns Inv-loop μ-loop
 returns c =
     let l = c .before .loop in

@@ -11,10 +11,6 @@ use Rattle.script.specs.Words.{wordsOf}
 use Rattle.script.specs.Laws.{no-words, word-ends-past, word-counted}
 use Rattle.script.proofs.words.count.Statement.{statement}
 use Rattle.script.proofs.words.count.Tie as tie
-use Rattle.script.proofs.words.count.Reads as reads
-use Rattle.script.proofs.words.count.Lts as lts
-use Rattle.script.proofs.words.spaces_end.Reads as spaces-end-reads
-use Rattle.script.proofs.words.word_end.Reads as word-end-reads
 
 abbrev Inv-loop : tie.InvT-loop
 Inv-loop line at n₀ next₀ n next =
@@ -33,35 +29,28 @@ past c =
     let l = c .before .before .before .loop in
     word-ends-past (now (c .before .before .before .before .before .before .args .line)) (l .next) (c .before .word-end .result) (w .0) (omega arith) (l .inv .2) (w .2)
 
--- src/words.rt:73:9
 spaces-end-requires : tie.Need-spaces-end-requires Inv-loop μ-loop
 spaces-end-requires c κs = search needs
 
--- src/words.rt:74:5
 loop-holds : tie.Need-loop-holds Inv-loop μ-loop
 loop-holds c =
     let s = c .spaces-end .ensures in
     (s .1, omega arith, s .2, omega (arith, ap length (s .3)))
 
--- src/words.rt:75:13
 word-end-requires : tie.Need-word-end-requires Inv-loop μ-loop
 word-end-requires c κs = omega arith
 
--- src/words.rt:76:9
 spaces-end-requires-2 : tie.Need-spaces-end-requires-2 Inv-loop μ-loop
 spaces-end-requires-2 c κs = omega arith
 
--- src/words.rt:77:9
 add-n : tie.Need-add-n Inv-loop μ-loop
 add-n c = omega arith
 
--- src/words.rt:74:5
 loop-less : tie.Need-loop-less Inv-loop μ-loop
 loop-less c =
     let p = past c in
     omega arith
 
--- src/words.rt:74:5
 loop-again : tie.Need-loop-again Inv-loop μ-loop
 loop-again c =
     let p = past c in
@@ -72,7 +61,6 @@ loop-again c =
     let k = word-counted line (l .next) (c .before .word-end .result) p (w .1) (w .3) in
     (s .1, omega arith, s .2, omega (arith, ap length (s .3)))
 
--- src/words.rt:68:1
 returns : tie.Need-returns Inv-loop μ-loop
 returns c =
     let l = c .before .loop in

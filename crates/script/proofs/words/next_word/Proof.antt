@@ -4,20 +4,13 @@ use Rattle.script.specs.Laws.{next-word}
 use borrow.Author.Needs.{needs}
 use Rattle.script.proofs.words.next_word.Statement.{statement}
 use Rattle.script.proofs.words.next_word.Tie as tie
-use Rattle.script.proofs.words.next_word.Reads as reads
-use Rattle.script.proofs.words.next_word.Lts as lts
-use Rattle.script.proofs.words.spaces_end.Reads as spaces-end-reads
-use Rattle.script.proofs.words.word_end.Reads as word-end-reads
 
--- src/words.rt:51:9
 spaces-end-requires : tie.Need-spaces-end-requires
 spaces-end-requires c κs = search needs
 
--- src/words.rt:52:9
 word-end-requires : tie.Need-word-end-requires
 word-end-requires c κs = search needs
 
--- src/words.rt:47:1
 returns : tie.Need-returns
 returns c =
     let a = c .before .before .before .args in

@@ -8,15 +8,10 @@ use Rattle.script.specs.Words.{numberOf}
 use borrow.Author.Needs.{needs}
 use Rattle.script.proofs.words.number.Statement.{statement}
 use Rattle.script.proofs.words.number.Tie as tie
-use Rattle.script.proofs.words.number.Reads as reads
-use Rattle.script.proofs.words.number.Lts as lts
-use Rattle.text.proofs.number_in.Reads as number-in-reads
 
--- src/words.rt:123:5
 number-in-requires : tie.Need-number-in-requires
 number-in-requires c κs = search needs
 
--- src/words.rt:119:1
 returns : tie.Need-returns
 unfolding numberOf numberIn
 returns c =

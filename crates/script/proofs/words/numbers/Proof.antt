@@ -11,13 +11,6 @@ use Rattle.script.specs.Words.{wordsOf, fitting, wordValue, valuesOf}
 use Rattle.script.specs.Laws.{fitting-at, fitting-ended, filled-more, filled-all}
 use Rattle.script.proofs.words.numbers.Statement.{statement}
 use Rattle.script.proofs.words.numbers.Tie as tie
-use Rattle.script.proofs.words.numbers.Reads as reads
-use Rattle.script.proofs.words.numbers.Lts as lts
-use Rattle.script.proofs.words.is_end.Reads as is-end-reads
-use Rattle.script.proofs.words.next_word.Reads as next-word-reads
-use Rattle.script.proofs.words.number.Reads as number-reads
-use Rattle.script.proofs.words.up_to.Reads as up-to-reads
-use Rattle.script.proofs.words.value.Reads as value-reads
 
 abbrev Inv-loop : tie.InvT-loop
 Inv-loop line at limits out₀ good₀ next₀ i₀ out good next i =
@@ -30,53 +23,41 @@ Inv-loop line at limits out₀ good₀ next₀ i₀ out good next i =
 abbrev μ-loop : tie.MeasureT-loop
 μ-loop line at limits out₀ good₀ next₀ i₀ out good next i = length limits - i
 
--- src/words.rt:135:5
 loop-holds : tie.Need-loop-holds Inv-loop μ-loop
 loop-holds c =
     let e : length (now (c .before .before .before .args .limits)) - 0 ≡ length (now (c .before .before .before .args .limits)) = omega arith in
     (omega arith, omega arith, omega arith, refl, rw e)
 
--- src/words.rt:136:13
 next-word-requires : tie.Need-next-word-requires Inv-loop μ-loop
 next-word-requires c κs = omega arith
 
--- src/words.rt:137:13
 number-requires : tie.Need-number-requires Inv-loop μ-loop
 number-requires c κs = search needs
 
--- src/words.rt:138:26
 mul-up-to : tie.Need-mul-up-to Inv-loop μ-loop
 mul-up-to c = search needs
 
--- src/words.rt:138:26
 shared-slice-read-up-to : tie.Need-shared-slice-read-up-to Inv-loop μ-loop
 shared-slice-read-up-to c = omega arith
 
--- src/words.rt:138:13
 up-to-requires : tie.Need-up-to-requires Inv-loop μ-loop
 up-to-requires c κs = search needs
 
--- src/words.rt:140:18
 value-requires : tie.Need-value-requires Inv-loop μ-loop
 value-requires c κs = search needs
 
--- src/words.rt:140:9
 mul-out : tie.Need-mul-out Inv-loop μ-loop
 mul-out c = scaled-fits _ (length (now (c .before .before .before .before .before .before .before .before .before .before .args .limits))) 8 (omega arith) (search needs)
 
--- src/words.rt:140:9
 slice-write-out : tie.Need-slice-write-out Inv-loop μ-loop
 slice-write-out c = omega arith
 
--- src/words.rt:142:9
 add-i : tie.Need-add-i Inv-loop μ-loop
 add-i c = omega arith
 
--- src/words.rt:135:5
 loop-less : tie.Need-loop-less Inv-loop μ-loop
 loop-less c = omega arith
 
--- src/words.rt:135:5
 loop-again : tie.Need-loop-again Inv-loop μ-loop
 loop-again c =
     let l = c .before .before .before .before .before .before .loop in
@@ -89,15 +70,12 @@ loop-again c =
     let h : l .i < length (now (a .limits)) = omega arith in
     (omega arith, w .within, simp length-set (omega arith), rw (and-assoc, w .rest, u) (rw (fitting-at (now (a .limits)) (l .i) ws h) at (l .inv .3)), rw (w .rest) (filled-more wordValue (l .out) (length (now (a .limits))) (l .i) (c .value .result) ws (omega arith) h v ∙ l .inv .4))
 
--- src/words.rt:144:9
 is-end-requires : tie.Need-is-end-requires Inv-loop μ-loop
 is-end-requires c κs = omega arith
 
--- src/words.rt:126:1
 same-length : tie.Need-same-length Inv-loop μ-loop
 same-length c = search needs
 
--- src/words.rt:126:1
 returns : tie.Need-returns Inv-loop μ-loop
 returns c =
     let l = c .before .before .loop in

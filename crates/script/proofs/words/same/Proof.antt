@@ -9,8 +9,6 @@ use Rattle.script.specs.Words.{sameBytes}
 use Rattle.script.specs.Laws.{same-at, other-length, both-ended}
 use Rattle.script.proofs.words.same.Statement.{statement}
 use Rattle.script.proofs.words.same.Tie as tie
-use Rattle.script.proofs.words.same.Reads as reads
-use Rattle.script.proofs.words.same.Lts as lts
 
 abbrev Inv-loop : tie.InvT-loop
 Inv-loop a b i₀ i = (i ≤ length a) × (length a ≡ length b) × (sameBytes (drop i a) (drop i b) ≡ sameBytes a b)
@@ -18,23 +16,18 @@ Inv-loop a b i₀ i = (i ≤ length a) × (length a ≡ length b) × (sameBytes 
 abbrev μ-loop : tie.MeasureT-loop
 μ-loop a b i₀ i = length a - i
 
--- src/words.rt:88:9
 returns : tie.Need-returns Inv-loop μ-loop
 returns c = sym (other-length _ _ (c .if1 .taken))
 
--- src/words.rt:91:5
 loop-holds : tie.Need-loop-holds Inv-loop μ-loop
 loop-holds c = (omega arith, c .if1 .left, refl)
 
--- src/words.rt:92:12
 shared-slice-read-if2 : tie.Need-shared-slice-read-if2 Inv-loop μ-loop
 shared-slice-read-if2 c = omega arith
 
--- src/words.rt:92:20
 shared-slice-read-if2-2 : tie.Need-shared-slice-read-if2-2 Inv-loop μ-loop
 shared-slice-read-if2-2 c = omega arith
 
--- src/words.rt:93:13
 returns-2 : tie.Need-returns-2 Inv-loop μ-loop
 returns-2 c =
     let l = c .before .before .before .before .loop in
@@ -42,15 +35,12 @@ returns-2 c =
     let e = same-at (now (a .a)) (now (a .b)) (l .i) (omega arith) (omega arith) in
     sym (sym (l .inv .2) ∙ e ∙ rw (ne-eqb _ _ (c .if2 .taken)))
 
--- src/words.rt:95:9
 add-i : tie.Need-add-i Inv-loop μ-loop
 add-i c = omega arith
 
--- src/words.rt:91:5
 loop-less : tie.Need-loop-less Inv-loop μ-loop
 loop-less c = omega arith
 
--- src/words.rt:91:5
 loop-again : tie.Need-loop-again Inv-loop μ-loop
 loop-again c =
     let l = c .before .before .before .before .loop in
@@ -58,7 +48,6 @@ loop-again c =
     let e = same-at (now (a .a)) (now (a .b)) (l .i) (omega arith) (omega arith) in
     (omega arith, l .inv .1, sym (rw (eq-eqb _ _ (c .if2 .left)) at e) ∙ l .inv .2)
 
--- src/words.rt:84:1
 returns-3 : tie.Need-returns-3 Inv-loop μ-loop
 returns-3 c =
     let l = c .before .loop in

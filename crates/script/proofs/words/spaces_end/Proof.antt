@@ -33,7 +33,7 @@ loop-less : tie.Need-loop-less Inv-loop μ-loop
 loop-less c = omega arith
 
 loop-again : tie.Need-loop-again Inv-loop μ-loop
-loop-again c = 
+loop-again c =
     let l = c .before .before .before .loop in
     let line = now (c .before .before .before .before .args .line) in
     (omega arith, omega arith, space-passed line (l .i) (omega arith) (c .if1 .left) ∙ l .inv .2)

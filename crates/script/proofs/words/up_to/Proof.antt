@@ -2,22 +2,16 @@
 use borrow.Author.Needs.{needs}
 use Rattle.script.proofs.words.up_to.Statement.{statement}
 use Rattle.script.proofs.words.up_to.Tie as tie
-use Rattle.script.proofs.words.up_to.Reads as reads
-use Rattle.script.proofs.words.up_to.Lts as lts
 
--- src/words.rt:104:23
 enum-known-n : tie.Need-enum-known-n
 enum-known-n c = search needs
 
--- src/words.rt:105:24
 enum-told : tie.Need-enum-told
 enum-told c = search needs
 
--- src/words.rt:100:1
 returns : tie.Need-returns
 returns c = cc
 
--- src/words.rt:100:1
 returns-2 : tie.Need-returns-2
 returns-2 c = search needs
 

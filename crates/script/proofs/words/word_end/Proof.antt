@@ -9,8 +9,6 @@ use Rattle.script.specs.Words.{wordsAfter, wordsOf, between}
 use Rattle.script.specs.Laws.{byte-read, one-more, ends-at-space, ends-with-line, nothing-between}
 use Rattle.script.proofs.words.word_end.Statement.{statement}
 use Rattle.script.proofs.words.word_end.Tie as tie
-use Rattle.script.proofs.words.word_end.Reads as reads
-use Rattle.script.proofs.words.word_end.Lts as lts
 
 abbrev Inv-loop : tie.InvT-loop
 Inv-loop line from i₀ i = (from ≤ i) × (i ≤ length line) × (wordsAfter (between line from i) (drop i line) ≡ wordsOf (drop from line))
@@ -18,18 +16,15 @@ Inv-loop line from i₀ i = (from ≤ i) × (i ≤ length line) × (wordsAfter (
 abbrev μ-loop : tie.MeasureT-loop
 μ-loop line from i₀ i = length line - i
 
--- src/words.rt:38:5
 loop-holds : tie.Need-loop-holds Inv-loop μ-loop
 unfolding wordsOf
 loop-holds c =
     let a = c .args in
     (omega arith, omega arith, rw (nothing-between (now (a .line)) (a .from)))
 
--- src/words.rt:39:12
 shared-slice-read-if1 : tie.Need-shared-slice-read-if1 Inv-loop μ-loop
 shared-slice-read-if1 c = omega arith
 
--- src/words.rt:40:13
 returns : tie.Need-returns Inv-loop μ-loop
 returns c =
     let l = c .before .before .before .loop in
@@ -37,15 +32,12 @@ returns c =
     let h : l .i < length (now (a .line)) = omega arith in
     (omega arith, omega arith, λ _. eq-eqb _ 32 (c .if1 .taken), sym (l .inv .2) ∙ ends-at-space (now (a .line)) (between (now (a .line)) (a .from) (l .i)) (l .i) h (c .if1 .taken))
 
--- src/words.rt:42:9
 add-i : tie.Need-add-i Inv-loop μ-loop
 add-i c = omega arith
 
--- src/words.rt:38:5
 loop-less : tie.Need-loop-less Inv-loop μ-loop
 loop-less c = omega arith
 
--- src/words.rt:38:5
 loop-again : tie.Need-loop-again Inv-loop μ-loop
 loop-again c =
     let l = c .before .before .before .loop in
@@ -54,7 +46,6 @@ loop-again c =
     let h : l .i < length line = omega arith in
     (omega arith, omega arith, rw (one-more line (a .from) (l .i) (l .inv .0) h) (byte-read line (between line (a .from) (l .i)) (l .i) h (c .if1 .left) ∙ l .inv .2))
 
--- src/words.rt:33:1
 returns-2 : tie.Need-returns-2 Inv-loop μ-loop
 returns-2 c =
     let l = c .before .loop in
