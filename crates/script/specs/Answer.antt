@@ -15,6 +15,11 @@ unfoldable pub placeAfterAll : List ℕ → ℕ → List (List ℕ) → ℕ
 placeAfterAll s at [] = at
 placeAfterAll s at (p ∷ ps) = placeAfterAll (bytesPut s at p) (placeAfter s at p) ps
 
+-- parts as one text
+abbrev pub joined : List (List ℕ) → List ℕ
+joined [] = []
+joined (p ∷ ps) = p ++ joined ps
+
 -- each byte of a row after a space, "as two capital hexadecimal digits"
 abbrev pub rowParts : List ℕ → List (List ℕ)
 rowParts [] = []

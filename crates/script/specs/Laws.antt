@@ -4,19 +4,19 @@ use native.Mathlib.Numerals.{add-one}
 use native.Mathlib.Omega.{arith}
 use mathlib.Core.Path.{_≡_, refl, sym, _∙_, ap}
 use mathlib.Core.Bool.{Bool, true, false, cond, _&&_, and-false}
-use mathlib.Core.List.{List, [], _∷_, _++_, append-nil}
-use lib.ListN.{length, getD, take, drop, set, replicate, drop-of-length-le, length-take, length-drop}
-use lib.Seq.{drop-cons, take-suc, take-suc-set, take-all, append-snoc, getD-drop}
+use mathlib.Core.List.{List, [], _∷_, _++_, append-nil, append-assoc}
+use lib.ListN.{length, getD, take, drop, set, replicate, drop-of-length-le, length-append, take-append-drop, length-drop}
+use lib.Seq.{drop-cons, take-suc, take-suc-set, take-all, take-at, drop-at, drop-drop, length-take-le, append-snoc, getD-drop}
 use lib.Dec.{leb, eqb, ltb}
-use borrow.Author.Tests.{eq-eqb, ne-eqb, eqb-true, eqb-false, ltb-true, ltb-false, leb-true}
+use borrow.Author.Tests.{eq-eqb, ne-eqb, eqb-true, eqb-false, ltb-true, ltb-false, leb-true, le-leb}
 use Rattle.text.specs.declared.Number.{Number}
 use Rattle.text.specs.declared.Number.the-variants.{Value, Not}
-use Rattle.text.specs.Place.{placeAfter, bytesPut}
+use Rattle.text.specs.Place.{replaced, placeAfter, bytesPut}
 use Rattle.text.specs.Digits.{hexByte}
 use Rattle.script.specs.declared.Name.{Name}
 use Rattle.script.specs.declared.Command.{Command}
 use Rattle.script.specs.Command.{nameOf, valueAt, tickCall, telegramCall, writeCall, readCall, imageCall, partCall, callOf, commandOf, lengthOf}
-use Rattle.script.specs.Answer.{allPut, placeAfterAll, rowParts}
+use Rattle.script.specs.Answer.{allPut, placeAfterAll, joined, rowParts}
 use Rattle.script.specs.Words.{some, wordsAfter, wordsOf, isEmpty, firstOf, restOf, between, NextWord, numberOf, upTo, valueOf, fitting, eachOf, valuesOf, sameBytes}
 
 -- ---- words
@@ -143,6 +143,28 @@ pub place-append : (s : List ℕ) (at : ℕ) (ps qs : List (List ℕ)) → place
 unfolding allPut placeAfterAll
 place-append s at [] qs = refl
 place-append s at (p ∷ ps) qs = place-append (bytesPut s at p) (placeAfter s at p) ps qs
+
+-- where the text of the parts has room, it stands in the buffer from the place on, and the place after it is its end
+pub put-whole : (s : List ℕ) (at : ℕ) (ps : List (List ℕ)) → at + length (joined ps) ≤ length s → (allPut s at ps ≡ replaced s at (joined ps)) × (placeAfterAll s at ps ≡ at + length (joined ps))
+unfolding allPut placeAfterAll bytesPut placeAfter
+put-whole s at [] h =
+    let e : at + 0 ≡ at = omega arith in
+    (rw (e, append-nil (take at s)) (sym (take-append-drop at s)), sym e)
+put-whole s at (p ∷ ps) h =
+    let q = joined ps in
+    let l = length-append p q in
+    let f : leb (at + length p) (length s) ≡ true = le-leb (at + length p) (length s) (omega arith) in
+    let n : length (take at s ++ p) ≡ at + length p = length-append (take at s) p ∙ rw (length-take-le at s (omega arith)) in
+    let m : length (replaced s at p) ≡ length s =
+    length-append (take at s ++ p) (drop (at + length p) s) ∙ rw (n, length-drop (at + length p) s) (omega arith) in
+    let i = put-whole (replaced s at p) (at + length p) ps (omega arith) in
+    let t : take (at + length p) (replaced s at p) ≡ take at s ++ p = take-at (take at s ++ p) (drop (at + length p) s) (at + length p) n in
+    let d : drop (at + length p + length q) (replaced s at p) ≡ drop (at + length (p ++ q)) s =
+    sym (drop-drop (length q) (at + length p) (replaced s at p))
+    ∙ ap (drop (length q)) (drop-at (take at s ++ p) (drop (at + length p) s) (at + length p) n)
+    ∙ drop-drop (length q) (at + length p) s
+    ∙ ap (λ k. drop k s) (let e : at + length p + length q ≡ at + length (p ++ q) = omega arith in e) in
+    (rw f (i .0 ∙ rw (t, d, append-assoc (take at s) p q)), rw f (i .1 ∙ omega arith))
 
 -- ---- words counted
 
