@@ -1,4 +1,4 @@
-//! Makes a module of each slip (see slips.rs), for the test that shows that the histories find it.
+//! Links the archive, and makes a module of each slip (see slips.rs), for the test that shows that the histories find it.
 
 use std::fmt::Write;
 use std::{env, fs, path::Path};
@@ -6,6 +6,9 @@ use std::{env, fs, path::Path};
 include!("slips.rs");
 
 fn main() {
+    let archive = fs::canonicalize("../../target/staticlib/libcapi.a").expect("made by `rt staticlib capi`");
+    println!("cargo:rerun-if-changed={}", archive.display());
+    println!("cargo:rustc-link-search=native={}", archive.parent().expect("a folder").display());
     for file in ["src/model.rs", "slips.rs", "build.rs"] {
         println!("cargo:rerun-if-changed={file}");
     }

@@ -7,10 +7,10 @@ use crate::compare::PARAMETERS;
 use crate::model::Model;
 use crate::random::Random;
 
-/// Histories of a default run, about two million calls.
-pub const HISTORIES: u64 = 1_280;
+/// Histories of a default run, about six million calls.
+pub const HISTORIES: u64 = 20_480;
 /// One history in so many is a long one: a silence past 65,535 ticks, or as many writes.
-const LONG_EVERY: u64 = 128;
+const LONG_EVERY: u64 = 1_024;
 
 pub fn histories(seed: u64, number: u64) -> impl Iterator<Item = Vec<Call>> {
     (0..number).map(move |index| history(seed, index))
@@ -29,7 +29,7 @@ pub fn history(seed: u64, index: u64) -> Vec<Call> {
             _ => maker.long_silence(),
         }
     } else {
-        let length = maker.random.pick(&[30, 300, 1000, 2000, 3000]);
+        let length = maker.random.pick(&[10, 30, 60, 100, 150, 300, 1000]);
         maker.opening();
         while maker.calls.len() < length {
             maker.call();

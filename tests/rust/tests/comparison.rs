@@ -13,8 +13,8 @@ fn model() -> Box<dyn Head> {
 
 #[test]
 fn a_head_equals_itself() {
-    let calls = compare(&model, &model, histories(1, HISTORIES)).unwrap_or_else(|difference| panic!("{difference}"));
-    assert!(calls >= 2_000_000, "{calls}");
+    let calls = compare(&model, &model, histories(3, 2000)).unwrap_or_else(|difference| panic!("{difference}"));
+    assert!(calls >= 200_000, "{calls}");
 }
 
 #[test]

@@ -5,6 +5,7 @@
 //! `rcas X S` are telegrams. After `=>` stands the answer; the words of a read stand there alone, a second word 0 may
 //! be left out. Without `=>` the call must not be refused. `7 * call` makes a call seven times.
 
+use comparison::archive::Archive;
 use comparison::calls::{parse, replay, Answer, Head, Line};
 use comparison::model::Model;
 
@@ -54,10 +55,10 @@ fn expected(text: &str) -> String {
     words.join(" ")
 }
 
-/// Plays calls on a fresh head.
+/// Plays calls on a fresh model, and on a fresh device of the archive's.
 fn play(script: &str) {
-    let mut head = Model::factory();
-    play_on(&mut head, script);
+    play_on(&mut Model::factory(), script);
+    play_on(&mut Archive::factory(), script);
 }
 
 fn play_on(head: &mut dyn Head, script: &str) {
