@@ -81,9 +81,9 @@ pub extern "C" fn serkoviu_tick(d: Device, fault: bool, ain: Pair, tot: Pair) ->
 pub extern "C" fn serkoviu_telegram(d: Device, input: u8, bytes: &[u8]) -> AnsweredNumbers
     ensures { λ r. ⌜ r ≡ answeredNumbers (telegramOf d input (now (bytes .entry))) ⌝ }
 {
-    let answered = device::telegram(d, input, bytes);
-    let next = answered.device;
-    let answer = answered.answer;
+    let taken = device::telegram(d, input, bytes);
+    let next = taken.device;
+    let answer = taken.answer;
     let number = wire::answer_number(answer);
     AnsweredNumbers {
         device: next,
@@ -101,9 +101,9 @@ pub extern "C" fn serkoviu_write(
 ) -> AnsweredNumbers
     ensures { λ r. ⌜ r ≡ answeredNumbers (writeOf d block parameter first second) ⌝ }
 {
-    let answered = device::write(d, block, parameter, first, second);
-    let next = answered.device;
-    let answer = answered.answer;
+    let written = device::write(d, block, parameter, first, second);
+    let next = written.device;
+    let answer = written.answer;
     let number = wire::answer_number(answer);
     AnsweredNumbers {
         device: next,
