@@ -63,8 +63,7 @@ pub extern "C" fn serkoviu_factory() -> Device
     device::factory()
 }
 
-#[no_mangle]
-pub extern "C" fn serkoviu_tick(d: Device, fault: bool, ain: Pair, tot: Pair) -> TickedNumbers
+fn ticked(d: Device, fault: bool, ain: Pair, tot: Pair) -> TickedNumbers
     ensures { λ r. ⌜ r ≡ tickedNumbers (tickOf d fault ain tot) ⌝ }
 {
     let ticked = device::tick(d, fault, ain, tot);
@@ -75,6 +74,15 @@ pub extern "C" fn serkoviu_tick(d: Device, fault: bool, ain: Pair, tot: Pair) ->
         device: next,
         order: numbers,
     }
+}
+
+#[no_mangle]
+pub extern "C" fn serkoviu_tick(d: &mut Device, fault: bool, ain: Pair, tot: Pair) -> OrderNumbers
+    ensures { λ r. ⌜ (r ≡ orderNumbers (tickOf (now (d .entry)) fault ain tot .order)) × (now (d .exit) ≡ tickOf (now (d .entry)) fault ain tot .device) ⌝ }
+{
+    let next = ticked(*d, fault, ain, tot);
+    *d = next.device;
+    next.order
 }
 
 #[no_mangle]
