@@ -173,12 +173,6 @@ typedef struct serkoviu_order {
     float value;
 } serkoviu_order;
 
-/* The device after a tick, and the drive order. */
-typedef struct serkoviu_ticked {
-    serkoviu_device device;
-    serkoviu_order order;
-} serkoviu_ticked;
-
 /* The device after a call, and its answer. */
 typedef struct serkoviu_answered {
     serkoviu_device device;
@@ -195,8 +189,8 @@ typedef struct serkoviu_reading {
 /* A fresh device. */
 serkoviu_device serkoviu_factory(void);
 
-/* A tick, every 0.1 s: the fault flag, and the transducers' pairs for AIN and TOT. */
-serkoviu_ticked serkoviu_tick(serkoviu_device device, bool fault, serkoviu_pair ain, serkoviu_pair tot);
+/* A tick, every 0.1 s, on the device in place: the fault flag, and the transducers' pairs for AIN and TOT. */
+serkoviu_order serkoviu_tick(serkoviu_device *device, bool fault, serkoviu_pair ain, serkoviu_pair tot);
 
 /* A telegram to SERKOVIU_SP or SERKOVIU_RCAS_IN: five bytes. */
 serkoviu_answered serkoviu_telegram(serkoviu_device device, uint8_t input, const uint8_t *bytes, size_t length);
@@ -312,9 +306,6 @@ SERKOVIU_FIELD(serkoviu_device, ao, 168);
 SERKOVIU_LAYOUT(serkoviu_order, 8, 4);
 SERKOVIU_FIELD(serkoviu_order, kind, 0);
 SERKOVIU_FIELD(serkoviu_order, value, 4);
-SERKOVIU_LAYOUT(serkoviu_ticked, 272, 8);
-SERKOVIU_FIELD(serkoviu_ticked, device, 0);
-SERKOVIU_FIELD(serkoviu_ticked, order, 264);
 SERKOVIU_LAYOUT(serkoviu_answered, 272, 8);
 SERKOVIU_FIELD(serkoviu_answered, device, 0);
 SERKOVIU_FIELD(serkoviu_answered, answer, 264);

@@ -71,14 +71,13 @@ int main(void)
         }
         serkoviu_pair ain = {bits_of(4.0f + (float)(i % 128) * 0.125f), 0x80};
         serkoviu_pair tot = {bits_of(0.015625f), 0x80};
-        serkoviu_ticked ticked = serkoviu_tick(device, false, ain, tot);
-        device = ticked.device;
-        switch (ticked.order.kind) {
+        serkoviu_order order = serkoviu_tick(&device, false, ain, tot);
+        switch (order.kind) {
         case SERKOVIU_POSITION:
-            position = ticked.order.value;
+            position = order.value;
             break;
         default:
-            printf("tick %u: order of kind %u\n", i, ticked.order.kind);
+            printf("tick %u: order of kind %u\n", i, order.kind);
             break;
         }
         high += (serkoviu_read(device, SERKOVIU_AIN, 7).first & 2) != 0;

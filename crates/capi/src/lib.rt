@@ -1,6 +1,7 @@
 // The device's calls for C, declared in include/serkoviu.h. Each export makes the device's call of the same name;
 // orders, answers and readings cross as numbers, since an enum does not cross to C. A block's part of an image has no
-// export, since a returned reference does not cross either.
+// export, since a returned reference does not cross either. A tick works on the caller's device in place; `ticked` is
+// called from there alone, so that the compiler removes the copies.
 ghost use mathlib.Core.Path.{_≡_};
 ghost use Rattle.wire.specs.Refusal.{answerNumber};
 ghost use Rattle.wire.specs.Image.{imageAnswer, imageBytes};
@@ -19,10 +20,9 @@ pub struct OrderNumbers {
 }
 
 // The device after a tick, and AO's drive order.
-#[repr(C)]
-pub struct TickedNumbers {
-    pub device: Device,
-    pub order: OrderNumbers,
+struct TickedNumbers {
+    device: Device,
+    order: OrderNumbers,
 }
 
 // The device after a call, and the call's number: 0 accepted, else the number of the ground of refusal.

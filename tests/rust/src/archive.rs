@@ -53,7 +53,6 @@ c_structs! {
     AoBlock { settings: AoSettings, state: AoState, st_rev: u16 }
     Device { write_locking: u32, ain: AinBlock, tot: TotBlock, ao: AoBlock }
     OrderNumbers { kind: u8, value: f32 }
-    TickedNumbers { device: Device, order: OrderNumbers }
     AnsweredNumbers { device: Device, answer: u8 }
     ReadingNumbers { answer: u8, first: u32, second: u32 }
 }
@@ -61,7 +60,7 @@ c_structs! {
 #[link(name = "capi", kind = "static")]
 extern "C" {
     fn serkoviu_factory() -> Device;
-    fn serkoviu_tick(device: Device, fault: bool, ain: Pair, tot: Pair) -> TickedNumbers;
+    fn serkoviu_tick(device: *mut Device, fault: bool, ain: Pair, tot: Pair) -> OrderNumbers;
     fn serkoviu_telegram(device: Device, input: u8, bytes: *const u8, length: usize) -> AnsweredNumbers;
     fn serkoviu_write(device: Device, block: u8, parameter: u8, first: u32, second: u32) -> AnsweredNumbers;
     fn serkoviu_read(device: Device, block: u8, parameter: u8) -> ReadingNumbers;
@@ -97,9 +96,8 @@ impl Head for Archive {
     fn tick(&mut self, fault: bool, ain_bits: u32, ain_status: u8, tot_bits: u32, tot_status: u8) -> Order {
         let ain = Pair { bits: ain_bits, status: ain_status };
         let tot = Pair { bits: tot_bits, status: tot_status };
-        let ticked = unsafe { serkoviu_tick(self.device, fault, ain, tot) };
-        self.device = ticked.device;
-        match (ticked.order.kind, ticked.order.value.to_bits()) {
+        let order = unsafe { serkoviu_tick(&mut self.device, fault, ain, tot) };
+        match (order.kind, order.value.to_bits()) {
             (0, bits) => Order::Position(bits),
             (1, 0) => Order::Safe,
             (2, 0) => Order::Rest,
