@@ -4,12 +4,10 @@ use Rattle.numbers.specs.Floats.{floatOf}
 use Rattle.wire.specs.Refusal.{refusalNumber, answerNumber}
 use Rattle.ao.specs.declared.Order.{Order}
 use Rattle.ao.specs.declared.Order.the-variants.{Position, Safe, Rest}
-use Rattle.device.specs.declared.Ticked.{Ticked}
 use Rattle.device.specs.declared.Answered.{Answered}
 use Rattle.device.specs.declared.Reading.{Reading}
 use Rattle.device.specs.declared.Reading.the-variants.{Read, Refused}
 use Rattle.capi.specs.declared.OrderNumbers.{OrderNumbers}
-use Rattle.capi.specs.declared.TickedNumbers.{TickedNumbers}
 use Rattle.capi.specs.declared.AnsweredNumbers.{AnsweredNumbers}
 use Rattle.capi.specs.declared.ReadingNumbers.{ReadingNumbers}
 
@@ -18,9 +16,6 @@ abbrev pub orderNumbers : Order → OrderNumbers
 orderNumbers (Position x) = record { kind = 0; value = x }
 orderNumbers Safe = record { kind = 1; value = floatOf 0 }
 orderNumbers Rest = record { kind = 2; value = floatOf 0 }
-
-abbrev pub tickedNumbers : Ticked → TickedNumbers
-tickedNumbers t = record { device = t .device; order = orderNumbers (t .order) }
 
 -- "Returned: the number alone."; 0 where the call is accepted
 abbrev pub answeredNumbers : Answered → AnsweredNumbers

@@ -1,15 +1,19 @@
 // The device's calls for C, declared in include/serkoviu.h. Each export makes the device's call of the same name;
 // orders, answers and readings cross as numbers, since an enum does not cross to C. A block's part of an image has no
-// export, since a returned reference does not cross either. A tick works on the caller's device in place; `ticked` is
-// called from there alone, so that the compiler removes the copies.
+// export, since a returned reference does not cross either. A tick works on the caller's device in place, block by
+// block: the compiler then copies no block, and holds the fields of one at a time.
 ghost use mathlib.Core.Path.{_≡_};
 ghost use Rattle.wire.specs.Refusal.{answerNumber};
 ghost use Rattle.wire.specs.Image.{imageAnswer, imageBytes};
 ghost use Rattle.device.specs.Factory.{factoryDevice};
 ghost use Rattle.device.specs.Read.{readOf};
 ghost use Rattle.device.specs.Calls.{writeOf, tickOf, telegramOf, warmStarted};
-ghost use Rattle.capi.specs.Numbers.{orderNumbers, tickedNumbers, answeredNumbers, readingNumbers};
+ghost use Rattle.capi.specs.Blocks.{ainTicked, totTicked, aoTicked};
+ghost use Rattle.capi.specs.Numbers.{orderNumbers, answeredNumbers, readingNumbers};
+use device::AinBlock;
+use device::AoBlock;
 use device::Device;
+use device::TotBlock;
 use wire::Pair;
 
 // A drive order: kind 0 Position, 1 Safe, 2 Rest; the value is 0 where the kind is not 0.
@@ -19,9 +23,9 @@ pub struct OrderNumbers {
     pub value: f32,
 }
 
-// The device after a tick, and AO's drive order.
-struct TickedNumbers {
-    device: Device,
+// AO after a tick, and its drive order.
+struct AoTicked {
+    block: AoBlock,
     order: OrderNumbers,
 }
 
@@ -63,15 +67,35 @@ pub extern "C" fn serkoviu_factory() -> Device
     device::factory()
 }
 
-fn ticked(d: Device, fault: bool, ain: Pair, tot: Pair) -> TickedNumbers
-    ensures { λ r. ⌜ r ≡ tickedNumbers (tickOf d fault ain tot) ⌝ }
+fn ain_ticked(b: AinBlock, fault: bool, pair: Pair) -> AinBlock
+    ensures { λ r. ⌜ r ≡ ainTicked b fault pair ⌝ }
 {
-    let ticked = device::tick(d, fault, ain, tot);
-    let next = ticked.device;
+    let state = ain::tick(b.settings, b.state, fault, pair.bits, pair.status);
+    let mut next = b;
+    next.state = state;
+    next
+}
+
+fn tot_ticked(b: TotBlock, fault: bool, pair: Pair) -> TotBlock
+    ensures { λ r. ⌜ r ≡ totTicked b fault pair ⌝ }
+{
+    let state = tot::tick(b.settings, b.state, fault, pair.bits, pair.status);
+    let mut next = b;
+    next.state = state;
+    next
+}
+
+fn ao_ticked(b: AoBlock, fault: bool) -> AoTicked
+    ensures { λ r. ⌜ r ≡ aoTicked b fault ⌝ }
+{
+    let ticked = ao::tick(b.settings, b.state, fault);
+    let state = ticked.state;
     let order = ticked.order;
     let numbers = order_numbers(order);
-    TickedNumbers {
-        device: next,
+    let mut next = b;
+    next.state = state;
+    AoTicked {
+        block: next,
         order: numbers,
     }
 }
@@ -80,9 +104,11 @@ fn ticked(d: Device, fault: bool, ain: Pair, tot: Pair) -> TickedNumbers
 pub extern "C" fn serkoviu_tick(d: &mut Device, fault: bool, ain: Pair, tot: Pair) -> OrderNumbers
     ensures { λ r. ⌜ (r ≡ orderNumbers (tickOf (now (d .entry)) fault ain tot .order)) × (now (d .exit) ≡ tickOf (now (d .entry)) fault ain tot .device) ⌝ }
 {
-    let next = ticked(*d, fault, ain, tot);
-    *d = next.device;
-    next.order
+    d.ain = ain_ticked(d.ain, fault, ain);
+    d.tot = tot_ticked(d.tot, fault, tot);
+    let ticked = ao_ticked(d.ao, fault);
+    d.ao = ticked.block;
+    ticked.order
 }
 
 #[no_mangle]
