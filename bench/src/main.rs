@@ -7,20 +7,39 @@ use std::hint::black_box;
 use std::mem::size_of;
 use std::time::Instant;
 
-use comparison::archive::{Archive, Device};
+use comparison::archive::{Archive, Device, Pair};
 use comparison::calls::{Call, Head};
 use comparison::histories::histories;
 use comparison::model::Model;
 
+/// A head whose ticks are measured, each in its own form.
+trait Measured: Head {
+    fn measured_tick(&mut self, fault: bool, ain: Pair, tot: Pair);
+}
+
+impl Measured for Archive {
+    #[inline(always)]
+    fn measured_tick(&mut self, fault: bool, ain: Pair, tot: Pair) {
+        black_box(self.tick_in_numbers(fault, ain, tot));
+    }
+}
+
+impl Measured for Model {
+    #[inline(always)]
+    fn measured_tick(&mut self, fault: bool, ain: Pair, tot: Pair) {
+        black_box(Model::tick(self, fault, ain.bits, ain.status, tot.bits, tot.status));
+    }
+}
+
 /// The measured function: a tick and nothing else. Not inlined, so that callgrind counts it by its name.
 #[inline(never)]
-fn tick_of<H: Head>(head: &mut H, fault: bool, ain: (u32, u8), tot: (u32, u8)) {
-    black_box(head.tick(fault, ain.0, ain.1, tot.0, tot.1));
+fn tick_of<H: Measured>(head: &mut H, fault: bool, ain: (u32, u8), tot: (u32, u8)) {
+    head.measured_tick(fault, Pair { bits: ain.0, status: ain.1 }, Pair { bits: tot.0, status: tot.1 });
 }
 
 /// Plays the histories some times over; gives the number of ticks, and their time in the quickest round, less what
 /// reading the clock takes.
-fn play<H: Head>(fresh: impl Fn() -> H, calls: &[Vec<Call>], times: usize) -> (u64, f64) {
+fn play<H: Measured>(fresh: impl Fn() -> H, calls: &[Vec<Call>], times: usize) -> (u64, f64) {
     let clock = (0..1000).map(|_| Instant::now().elapsed().as_secs_f64()).sum::<f64>() / 1000.0;
     let (mut ticks, mut quickest) = (0, f64::INFINITY);
     for _ in 0..times {
@@ -74,7 +93,7 @@ fn paint() -> usize {
 
 /// The deepest stack of a tick over the histories, its return address included: the stack is painted, a tick is made,
 /// and the lowest word that changed is looked for.
-fn deepest<H: Head>(fresh: impl Fn() -> H, calls: &[Vec<Call>]) -> usize {
+fn deepest<H: Measured>(fresh: impl Fn() -> H, calls: &[Vec<Call>]) -> usize {
     let mut deepest = 0;
     for history in calls {
         let mut head = fresh();

@@ -85,6 +85,11 @@ impl Archive {
     pub fn factory() -> Archive {
         Archive { device: unsafe { serkoviu_factory() } }
     }
+
+    /// A tick as C makes it.
+    pub fn tick_in_numbers(&mut self, fault: bool, ain: Pair, tot: Pair) -> OrderNumbers {
+        unsafe { serkoviu_tick(&mut self.device, fault, ain, tot) }
+    }
 }
 
 // The calls are safe: the archive's contracts ask nothing of their arguments, and a reference is a valid pointer.
@@ -96,7 +101,7 @@ impl Head for Archive {
     fn tick(&mut self, fault: bool, ain_bits: u32, ain_status: u8, tot_bits: u32, tot_status: u8) -> Order {
         let ain = Pair { bits: ain_bits, status: ain_status };
         let tot = Pair { bits: tot_bits, status: tot_status };
-        let order = unsafe { serkoviu_tick(&mut self.device, fault, ain, tot) };
+        let order = self.tick_in_numbers(fault, ain, tot);
         match (order.kind, order.value.to_bits()) {
             (0, bits) => Order::Position(bits),
             (1, 0) => Order::Safe,
