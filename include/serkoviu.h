@@ -2,8 +2,9 @@
  *
  * A device is a plain struct that the caller holds. No call uses the heap, a global variable or a clock; calls on
  * different devices may run at the same time. Every call is defined for every argument, as long as each bool is 0 or
- * 1 and each pointer points to as many bytes as its length says (it is not null, also where the length is 0). A device
- * starts as what serkoviu_factory gives. */
+ * 1 and each pointer points to a device, or to as many bytes as its length says (it is not null, also where the length
+ * is 0). A device starts as what serkoviu_factory gives. A tick works on it in place; the other calls, which are rare,
+ * take it by value and give the next one. */
 #ifndef SERKOVIU_H
 #define SERKOVIU_H
 
