@@ -1,4 +1,4 @@
--- A tick block by block, as a device in place takes it, and that it is the device's tick. Assumes nothing.
+-- A tick block by block, as a device that is ticked in place takes it, and that it is the tick of paper 01, "Calls on the device". Assumes nothing.
 use mathlib.Core.Path.{_≡_, refl}
 use mathlib.Core.Bool.{Bool}
 use Rattle.wire.specs.declared.Pair.{Pair}
@@ -9,7 +9,6 @@ use Rattle.device.specs.declared.AinBlock.{AinBlock}
 use Rattle.device.specs.declared.TotBlock.{TotBlock}
 use Rattle.device.specs.declared.AoBlock.{AoBlock}
 use Rattle.device.specs.declared.Device.{Device}
-use Rattle.device.specs.declared.Ticked.{Ticked}
 use Rattle.device.specs.Calls.{tickOf}
 use Rattle.capi.specs.declared.AoTicked.{AoTicked}
 use Rattle.capi.specs.Numbers.{orderNumbers}

@@ -1,5 +1,4 @@
 -- Orders, answers and readings as the numbers that cross to C, from paper 01, "Calls on the device" and "Refused calls". Assumes nothing.
-use Prim.Native.Nat.{ℕ}
 use Rattle.numbers.specs.Floats.{floatOf}
 use Rattle.wire.specs.Refusal.{refusalNumber, answerNumber}
 use Rattle.ao.specs.declared.Order.{Order}

@@ -42,7 +42,6 @@ use Rattle.device.specs.declared.AinBlock.{AinBlock}
 use Rattle.device.specs.declared.TotBlock.{TotBlock}
 use Rattle.device.specs.declared.AoBlock.{AoBlock}
 use Rattle.device.specs.declared.Device.{Device}
-use Rattle.device.specs.Calls.{tickOf}
 use Rattle.device.proofs.AinBlock as Ain
 use Rattle.device.proofs.AinBlock.Laws as Ain′
 use Rattle.device.proofs.TotBlock as Tot
