@@ -3,3 +3,4 @@ pub mod Stored
 pub mod Factory
 pub mod Read
 pub mod Calls
+pub mod Laws

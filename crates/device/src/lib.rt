@@ -197,8 +197,8 @@ fn ao_settings(s: ao::Settings, parameter: u8, a: u32, b: u32) -> ao::Settings
     ensures { λ r. ⌜ r ≡ aoSettings s parameter a b ⌝ }
 {
     let x = float_of(a);
-    let y = float_of(b);
-    let scale = Scale { low: x, high: y };
+    let high = float_of(b);
+    let scale = Scale { low: x, high: high };
     let mut next = s;
     match parameter {
         5 => next.target = a,
@@ -533,10 +533,10 @@ pub fn telegram(d: Device, input: u8, bytes: &[u8]) -> Answered
     ensures { λ r. ⌜ r ≡ telegramOf d input (now (bytes .entry)) ⌝ }
 {
     let taken = ao::telegram(d.ao.state, input, bytes);
-    let ao_state = taken.state;
+    let received = taken.state;
     let answer = taken.answer;
     let mut ao_next = d.ao;
-    ao_next.state = ao_state;
+    ao_next.state = received;
     let mut next = d;
     next.ao = ao_next;
     Answered {
@@ -548,15 +548,15 @@ pub fn telegram(d: Device, input: u8, bytes: &[u8]) -> Answered
 pub fn warm_start(d: Device) -> Device
     ensures { λ r. ⌜ r ≡ warmStarted d ⌝ }
 {
-    let ain_state = ain::warm_start(d.ain.state);
-    let tot_state = tot::warm_start(d.tot.state);
-    let ao_state = ao::warm_start(d.ao.state);
+    let ain_started = ain::warm_start(d.ain.state);
+    let tot_started = tot::warm_start(d.tot.state);
+    let ao_started = ao::warm_start(d.ao.state);
     let mut ain_next = d.ain;
     let mut tot_next = d.tot;
     let mut ao_next = d.ao;
-    ain_next.state = ain_state;
-    tot_next.state = tot_state;
-    ao_next.state = ao_state;
+    ain_next.state = ain_started;
+    tot_next.state = tot_started;
+    ao_next.state = ao_started;
     let mut next = d;
     next.ain = ain_next;
     next.tot = tot_next;

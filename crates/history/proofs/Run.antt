@@ -6,6 +6,7 @@ use mathlib.Core.Bool.{Bool, true, false, _&&_, cond, true≢false}
 use mathlib.Core.List.{List, [], _∷_}
 use mathlib.Core.Option.{Option, none, some}
 use lib.Dec.{T, eqb, ltb, lt→ltb}
+use lib.Ieee.Fits.{and-i}
 use lib.ListN.{length, getD}
 use borrow.Author.Tests.{lt-ltb, le-ltb}
 use Rattle.wire.specs.Bytes.{wordOf}
@@ -18,7 +19,6 @@ use Rattle.history.specs.Calls.{Call, fitting, allFit, after, reachedFro
 use Rattle.history.specs.Encoded.{wordAt, pairAt, lengthAt, tickFound, writeFound, telegramFound, stepAt, isMalformed, callOf, more, callsFrom, decoded, Replays}
 use Rattle.history.proofs.Theorem.{demand-3}
 use Rattle.history.proofs.PointsProof.{points}
-use Rattle.history.proofs.Truth.{both}
 
 -- what the loop computes from a place on
 pub runFrom : ℕ → List ℕ → ℕ → Device → Option Device
@@ -99,7 +99,7 @@ module _ (s : List ℕ) (bytes : (i : ℕ) → getD s i 0 < 256) where
       tick-fits = among (ltb (length s - at) 12) (ltb 1 (getD s (at + 1) 0)) (record { step = Step.Tick (eqb (getD s (at + 1) 0) 1) (pairAt s (at + 2)) (pairAt s (at + 7)); next = at + 12 }) tt
 
       write-fits : Fits (writeFound s at)
-      write-fits = among (ltb (length s - at) 11) false (record { step = Step.Write (getD s (at + 1) 0) (getD s (at + 2) 0) (wordAt s (at + 3)) (wordAt s (at + 7)); next = at + 11 }) (both (ltb (wordAt s (at + 3)) (2 ^ 32)) (ltb (wordAt s (at + 7)) (2 ^ 32)) (lt→ltb (wordAt s (at + 3)) (2 ^ 32) (word-small (at + 3))) (lt→ltb (wordAt s (at + 7)) (2 ^ 32) (word-small (at + 7))))
+      write-fits = among (ltb (length s - at) 11) false (record { step = Step.Write (getD s (at + 1) 0) (getD s (at + 2) 0) (wordAt s (at + 3)) (wordAt s (at + 7)); next = at + 11 }) (and-i (ltb (wordAt s (at + 3)) (2 ^ 32)) (ltb (wordAt s (at + 7)) (2 ^ 32)) (lt→ltb (wordAt s (at + 3)) (2 ^ 32) (word-small (at + 3))) (lt→ltb (wordAt s (at + 7)) (2 ^ 32) (word-small (at + 7))))
 
       telegram-fits : Fits (telegramFound s at)
       telegram-fits = among (ltb (length s - at) 10) (ltb (length s - at - 10) (lengthAt s at)) (record { step = Step.Telegram (getD s (at + 1) 0) (lengthAt s at); next = at + 10 + lengthAt s at }) tt
@@ -128,7 +128,7 @@ module _ (s : List ℕ) (bytes : (i : ℕ) → getD s i 0 < 256) where
       go false m o t = tt
       go true true o t = tt
       go true false none t = tt
-      go true false (some cs) t = both (fitting (callOf s at (stepAt s at .step))) (allFit cs) (step-fits at) t
+      go true false (some cs) t = and-i (fitting (callOf s at (stepAt s at .step))) (allFit cs) (step-fits at) t
 
 -- ---- the promise
 

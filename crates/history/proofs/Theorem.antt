@@ -5,6 +5,7 @@ use mathlib.Core.Path.{_≡_, refl, sym, ap, _∙_, subst}
 use mathlib.Core.Bool.{Bool, true, false, not, _&&_, _||_, cond, true≢false}
 use mathlib.Core.List.{List, [], _∷_}
 use lib.Dec.{T, eqb, ltb, ltb→lt}
+use lib.Ieee.Fits.{and-l, and-r}
 use lib.ListN.{length, getD}
 use borrow.Author.Tests.{eqb-true, ltb-true, ltb-false}
 use Rattle.wire.specs.declared.Pair.{Pair}
@@ -39,7 +40,6 @@ use Rattle.history.proofs.Agrees.{Agrees, agrees-start, agrees-wrote}
 use Rattle.history.proofs.Telegrams.{agrees-telegram, telegram-refused, agrees-warm}
 use Rattle.history.proofs.TickStep.{agrees-tick, claim-tick}
 use Rattle.history.proofs.ReadBack.{parameters-read, revisions-read, alarms-read}
-use Rattle.history.proofs.Truth.{left, right}
 
 -- what holds of a device and the accepted events
 pub record Holds (d : Device) (h : History Event) : Type 0 where
@@ -118,7 +118,7 @@ step d t warmStart fit H = record { agrees = agrees-warm (accepted t) d (H .agre
 run : (cs : List Call) (d : Device) (t : History Event) → T (allFit cs) → Holds d (accepted t) → Holds (reachedFrom d cs) (accepted (traceFrom d t cs))
 unfolding reachedFrom traceFrom
 run [] d t fit H = H
-run (c ∷ cs) d t fit H = run cs (after d c) (t ▷ event d c) (right (fitting c) (allFit cs) fit) (step d t c (left (fitting c) (allFit cs) fit) H)
+run (c ∷ cs) d t fit H = run cs (after d c) (t ▷ event d c) (and-r (fitting c) (allFit cs) fit) (step d t c (and-l (fitting c) (allFit cs) fit) H)
 
 start-holds : Holds factoryDevice (accepted start)
 unfolding accepted

@@ -5,6 +5,7 @@ use mathlib.Core.Path.{_≡_, refl, sym, ap, _∙_, subst}
 use mathlib.Core.Bool.{Bool, true, false, not, _&&_, _||_, cond, true≢false}
 use mathlib.Core.Logic.{_⊎_, inl, inr}
 use lib.Dec.{T, eqb, eqb→eq, ltb, leb, leb→le}
+use lib.Ieee.Fits.{and-l}
 use lib.Ieee.{Float}
 use lib.Ieee.Scale.{finite}
 use Rattle.numbers.specs.Floats.{floatOf}
@@ -42,26 +43,25 @@ use Rattle.history.specs.Claim.{TickClaim, follows}
 use Rattle.history.proofs.Agrees.{inputAt, alarmsAt, Agrees, not-usable, came-same, ifs-same, setpoint-same}
 use Rattle.history.proofs.Sound.{Sound, sound}
 use Rattle.history.proofs.Ticks.{IsMode, IsAoMode, ao-target, target, mode, ao-mode, ain-filter, ain-alarms, tot-rate, tot-total}
-use Rattle.history.proofs.Truth.{left}
 
 -- ---- what stands at the tick
 
 module _ (h : History Event) (S : Sound h) where
   ain-mode : (fault : Bool) → IsMode (modeAt h fault 1)
   unfolding modeAt entryOf entryIn Table.ain
-  ain-mode fault = mode fault (stored h 1 5 .first) (target (stored h 1 5 .first) (stored h 1 5 .second) (left (allowsOf (Mode false) (stored h 1 5 .first) (stored h 1 5 .second)) _ (S 1 5)))
+  ain-mode fault = mode fault (stored h 1 5 .first) (target (stored h 1 5 .first) (stored h 1 5 .second) (and-l (allowsOf (Mode false) (stored h 1 5 .first) (stored h 1 5 .second)) _ (S 1 5)))
 
   tot-mode : (fault : Bool) → IsMode (modeAt h fault 2)
   unfolding modeAt entryOf entryIn Table.tot
-  tot-mode fault = mode fault (stored h 2 5 .first) (target (stored h 2 5 .first) (stored h 2 5 .second) (left (allowsOf (Mode false) (stored h 2 5 .first) (stored h 2 5 .second)) _ (S 2 5)))
+  tot-mode fault = mode fault (stored h 2 5 .first) (target (stored h 2 5 .first) (stored h 2 5 .second) (and-l (allowsOf (Mode false) (stored h 2 5 .first) (stored h 2 5 .second)) _ (S 2 5)))
 
   set-small : stored h 2 13 .first ≤ 2
   unfolding entryOf entryIn Table.tot allowsOf
-  set-small = leb→le (stored h 2 13 .first) 2 (left (leb (stored h 2 13 .first) 2) _ (left (leb (stored h 2 13 .first) 2 && eqb (stored h 2 13 .second) 0) _ (S 2 13)))
+  set-small = leb→le (stored h 2 13 .first) 2 (and-l (leb (stored h 2 13 .first) 2) _ (and-l (leb (stored h 2 13 .first) 2 && eqb (stored h 2 13 .second) 0) _ (S 2 13)))
 
   time-small : stored h 3 23 .first ≤ 65535
   unfolding entryOf entryIn Table.ao allowsOf
-  time-small = leb→le (stored h 3 23 .first) 65535 (left (leb (stored h 3 23 .first) 65535) _ (left (leb (stored h 3 23 .first) 65535 && eqb (stored h 3 23 .second) 0) _ (S 3 23)))
+  time-small = leb→le (stored h 3 23 .first) 65535 (and-l (leb (stored h 3 23 .first) 65535) _ (and-l (leb (stored h 3 23 .first) 65535 && eqb (stored h 3 23 .second) 0) _ (S 3 23)))
 
 -- ---- alarms
 

@@ -5,6 +5,7 @@ use mathlib.Core.Path.{_≡_, refl, sym, ap, _∙_, subst}
 use mathlib.Core.Bool.{Bool, true, false, not, _&&_, _||_, cond, true≢false}
 use mathlib.Core.Logic.{_⊎_, inl, inr}
 use lib.Dec.{T, eqb, eqb→eq, leb, leb→le}
+use lib.Ieee.Fits.{and-l}
 use lib.IntN.{ℤ, pos}
 use lib.Ieee.{Float}
 use Rattle.numbers.specs.Floats.{floatOf}
@@ -25,7 +26,6 @@ use Rattle.tot.specs.declared.State.{State as TotState}
 use Rattle.tot.specs.Total.{nextTotal, sumOf, thousandthsOf}
 use Rattle.tot.specs.Tick as Tot
 use Rattle.history.specs.Rules.{whereUsable, totalBy}
-use Rattle.history.proofs.Truth.{left}
 
 -- ---- the modes
 
@@ -43,7 +43,7 @@ either false b t = inr t
 
 pub ao-target : (r : Bool) (a b : ℕ) → T (allowsOf (Mode r) a b) → IsAoMode a
 unfolding allowsOf
-ao-target r a b t = first r (either (eqb a outOfService || eqb a man || eqb a auto) (r && eqb a rcas) (left (eqb a outOfService || eqb a man || eqb a auto || r && eqb a rcas) (eqb b 0) t))
+ao-target r a b t = first r (either (eqb a outOfService || eqb a man || eqb a auto) (r && eqb a rcas) (and-l (eqb a outOfService || eqb a man || eqb a auto || r && eqb a rcas) (eqb b 0) t))
   where
     third : T (eqb a outOfService) ⊎ T (eqb a man) → IsMode a
     third (inl x) = inl (eqb→eq a outOfService x)
@@ -61,7 +61,7 @@ ao-target r a b t = first r (either (eqb a outOfService || eqb a man || eqb a au
 -- without RCas
 pub target : (a b : ℕ) → T (allowsOf (Mode false) a b) → IsMode a
 unfolding allowsOf
-target a b t = go (either (eqb a outOfService || eqb a man || eqb a auto) false (left (eqb a outOfService || eqb a man || eqb a auto || false) (eqb b 0) t)) (ao-target false a b t)
+target a b t = go (either (eqb a outOfService || eqb a man || eqb a auto) false (and-l (eqb a outOfService || eqb a man || eqb a auto || false) (eqb b 0) t)) (ao-target false a b t)
   where
     go : T (eqb a outOfService || eqb a man || eqb a auto) ⊎ ⊥ → IsAoMode a → IsMode a
     go (inl x) (inl m) = m

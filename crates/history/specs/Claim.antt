@@ -1,7 +1,7 @@
 -- The claim of demand 3, from paper 01, "History rules": one statement about a whole list of calls, refused ones included, from the factory device. Assumes nothing.
 use Prim.Native.Nat.{ℕ}
 use mathlib.Core.Path.{_≡_}
-use mathlib.Core.Bool.{Bool, true, false, not, _&&_, _||_}
+use mathlib.Core.Bool.{Bool, true, _&&_, _||_}
 use mathlib.Core.List.{List}
 use lib.Dec.{T, eqb, ltb}
 use lib.Ieee.Scale.{finite}
@@ -11,11 +11,8 @@ use Rattle.ain.specs.Tick.{calculated}
 use Rattle.ao.specs.declared.Order.{Order}
 use Rattle.ao.specs.Tick.{driveOrder}
 use Rattle.parameters.specs.declared.Words.{Words}
-use Rattle.parameters.specs.declared.Entry.{Entry}
-use Rattle.parameters.specs.declared.Entry.the-variants.{NoBlock, NoParameter, Parameter}
-use Rattle.parameters.specs.declared.Class.the-variants.{S, N, D, R}
 use Rattle.parameters.specs.Table.{words, entryOf}
-use Rattle.parameters.specs.Refused.{output}
+use Rattle.parameters.specs.Refused.{storedEntry}
 use Rattle.device.specs.declared.Device.{Device}
 use Rattle.device.specs.declared.Reading.the-variants.{Read}
 use Rattle.device.specs.Read.{readOf}
@@ -23,15 +20,6 @@ use Rattle.device.specs.Calls.{telegramOf, writeOf}
 use Rattle.history.specs.Past.{History, Each}
 use Rattle.history.specs.Calls.{Call, tick, write, warmStart, Event, ticked, telegram, wrote, warmed, event, reached, trace}
 use Rattle.history.specs.Rules.{isAccepted, isMet, accepted, stored, stRev, modeAt, ainAt, filterValue, alarmSum, total, gives, inputIn}
-
--- "A stored parameter (S or N, but not TOTAL)"
-abbrev pub storedEntry : Entry → Bool
-storedEntry NoBlock = false
-storedEntry NoParameter = false
-storedEntry (Parameter S allowed) = true
-storedEntry (Parameter N allowed) = not (output allowed)
-storedEntry (Parameter D allowed) = false
-storedEntry (Parameter R allowed) = false
 
 -- AO acts by a setpoint: in Auto and RCas
 abbrev pub follows : ℕ → Bool
@@ -61,6 +49,7 @@ accepts d warmStart = true
 
 -- after the list: stored parameters, ST_REVs and alarms as reads give them, and the device's own total; and each tick of the list
 pub record Claim (calls : List Call) : Type 0 where
+  -- "A stored parameter (S or N, but not TOTAL) has its last accepted words or default."
   pub parameters : (block number : ℕ) → T (storedEntry (entryOf block number)) → readOf (reached calls) block number ≡ Read (stored (accepted (trace calls)) block number)
   pub revisions : (block : ℕ) → T (ltb 0 block && ltb block 4) → readOf (reached calls) block 1 ≡ Read (words (stRev (accepted (trace calls)) block) 0)
   pub alarms : readOf (reached calls) 1 7 ≡ Read (words (alarmSum (accepted (trace calls))) 0)

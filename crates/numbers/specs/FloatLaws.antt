@@ -26,6 +26,14 @@ finiteOr-number s nan h = sym h
 finiteOr-number s (inf t) h = refl
 finiteOr-number s (fin t m e) h = refl
 
+pub within-number : (low high x : Float) → within low high x ≡ true → isNan x ≡ false
+unfolding isNan le
+within-number low high (inf s) h = refl
+within-number low high (fin s m e) h = refl
+within-number nan high nan h = sym h
+within-number (inf s) high nan h = sym h
+within-number (fin s m e) high nan h = sym h
+
 -- A value of the format is read back from its bits.
 pub float-back : (x : Float) → T (fits binary32 x) → floatOf (bitsOf x) ≡ x
 float-back x h = ofBits-toBits binary32 x h

@@ -37,6 +37,15 @@ output (FiniteOr negative) = false
 output Output = true
 output (Total low high) = true
 
+-- "A stored parameter (S or N, but not TOTAL)"
+abbrev pub storedEntry : Entry → Bool
+storedEntry NoBlock = false
+storedEntry NoParameter = false
+storedEntry (Parameter S allowed) = true
+storedEntry (Parameter N allowed) = not (output allowed)
+storedEntry (Parameter D allowed) = false
+storedEntry (Parameter R allowed) = false
+
 -- the target of a block; asked of AIN, TOT and AO alone
 unfoldable pub targetIn : Standing → ℕ → ℕ
 targetIn s block = cond (eqb block 1) (s .ain) (cond (eqb block 2) (s .tot) (s .ao))
