@@ -37,7 +37,7 @@ use Rattle.device.specs.Stored.{scaleOf, ainSettings, totSettings, aoSettings, 
 use Rattle.device.specs.Factory.{Valuation, ainBy, totBy, aoBy, factoryDevice}
 use Rattle.history.specs.Past.{History, start, _▷_, count, countSince, since, latest, told, carried}
 use Rattle.history.specs.Calls.{Event, ticked, telegram, wrote, warmed}
-use Rattle.history.specs.Rules.{stored, wordsTo, never, orDefault, isStaticWrite, stRev, ainAt, totAt, aoAt, filterValue, Alarm, hiHi, hi, lo, loLo, stands, rateValue, total, oldOut, came, setpoint, setpointOn, silence, ifs, isTick, isStart, pairOn, holds, isUsableOn, isIfsOn, raises, clears, orZero}
+use Rattle.history.specs.Rules.{stored, wordsTo, never, orDefault, isStaticWrite, stRev, ainAt, totAt, aoAt, filterValue, Alarm, hiHi, hi, lo, loLo, stands, rateValue, total, oldOut, came, setpoint, setpointOn, silence, ifs, isTick, isStart, pairOn, holds, isUsable, isIfs, isUsableOn, isIfsOn, raises, clears, orZero}
 use Rattle.history.proofs.Truth.{and-true}
 
 -- a setpoint input by the rules; the count stops at 65,536
@@ -105,11 +105,11 @@ silent-same input h e u t = rw (u, t)
 module _ (input : ℕ) (e : Event) (n : pairOn input e ≡ none) where
   pub not-usable : isUsableOn input e ≡ false
   unfolding isUsableOn
-  not-usable = ap (holds (λ p. usable (p .status) (finite (floatOf (p .bits))))) n
+  not-usable = ap (holds isUsable) n
 
   pub not-ifs : isIfsOn input e ≡ false
   unfolding isIfsOn
-  not-ifs = ap (holds (λ p. initiates (p .status))) n
+  not-ifs = ap (holds isIfs) n
 
   module _ (h : History Event) (s : isStart e ≡ false) where
     pub came-same : came input (h ▷ e) ≡ came input h

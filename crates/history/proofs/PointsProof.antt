@@ -14,7 +14,6 @@ use Rattle.ain.specs.Scaling.{scaledOf, filtered}
 use Rattle.ain.specs.Alarm.{alarmStands, rises, falls, alarmsOf, alarmStatus}
 use Rattle.ain.specs.Tick as Ain
 use Rattle.tot.specs.Total.{incrementOf, valueGiven}
-use Rattle.ao.specs.FailSafe.{classOf, usable, initiates, failSafeActs}
 use Rattle.parameters.specs.Table as Table
 use Rattle.parameters.specs.Words.{allowsOf}
 use Rattle.parameters.specs.Refused.{ground}
@@ -70,6 +69,6 @@ points = record {
   e = unfold incrementOf Whole.limit ofInt ofBits mul toSigned in refl;
   f = unfold incrementOf Whole.limit ofInt ofBits mul toSigned in refl;
   g = unfold valueGiven Whole.highest24ℤ Whole.highestBits ofInt div lib.Ieee.size in refl;
-  h = λ fault₁ fault₂ fault₃ ain₁ ain₂ ain₃ tot₁ tot₂ tot₃ w₁ w₂ w₃ x₁ x₂ x₃ o₁ o₂ o₃. unfold isFailSafe failSafeActs came since silence countSince ifs isUsableOn isIfsOn usable initiates classOf pairOf stored latest ofBits in (refl, refl, refl, refl);
+  h = λ fault₁ fault₂ fault₃ ain₁ ain₂ ain₃ tot₁ tot₂ tot₃ w₁ w₂ w₃ x₁ x₂ x₃ o₁ o₂ o₃. unfold isFailSafe came since silence countSince ifs isUsableOn isIfsOn pairOf stored latest ofBits in (refl, refl, refl, refl);
   i = (all-met 65536, rev-law 1 e17 start 65536 (unfold Table.isStatic Table.entryOf Table.entryIn Table.ain in refl) ∙ unfold count in refl);
 }

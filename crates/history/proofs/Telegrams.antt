@@ -20,12 +20,12 @@ use Rattle.ao.specs.FailSafe.{usable, initiates, afterTelegram, emptied}
 use Rattle.ao.specs.State.{noTelegrams, started, warmStarted as aoWarmStarted}
 use Rattle.ao.specs.Telegram.{inputAfter, takenOn, receivedOn}
 use Rattle.ao.specs.Telegram as Ao
-use Rattle.ao.specs.Laws.{usable-excludes}
+use Rattle.ao.specs.Laws.{usable-means, initiates-means, usable-excludes}
 use Rattle.device.specs.declared.Device.{Device}
 use Rattle.device.specs.Calls.{telegramOf, warmStarted}
 use Rattle.history.specs.Past.{History, _▷_, count, countSince, since, latest, carried}
 use Rattle.history.specs.Calls.{Event, telegram, warmed}
-use Rattle.history.specs.Rules.{stored, ainAt, totAt, aoAt, stRev, filterValue, Alarm, hiHi, hi, lo, loLo, stands, raises, clears, rateValue, oldOut, total, came, setpoint, silence, ifs, isTick, isStart, pairOn, valueOn, holds, isUsableOn, isIfsOn}
+use Rattle.history.specs.Rules.{stored, ainAt, totAt, aoAt, stRev, filterValue, Alarm, hiHi, hi, lo, loLo, stands, raises, clears, rateValue, oldOut, total, came, setpoint, silence, ifs, isTick, isStart, pairOn, valueOn, holds, isUsable, isIfs, isUsableOn, isIfsOn}
 use Rattle.history.proofs.Agrees.{inputAt, alarmsAt, Agrees, alarms-still, input-still}
 use Rattle.history.proofs.Truth.{and-true, and-false}
 
@@ -44,11 +44,11 @@ module _ (input : ℕ) (h : History Event) (e : Event) (p : Pair) (here : pairOn
 
   usable-is : isUsableOn input e ≡ u
   unfolding isUsableOn
-  usable-is = ap (holds (λ p. usable (p .status) (finite (floatOf (p .bits))))) here
+  usable-is = ap (holds isUsable) here ∙ sym (usable-means (p .status) (finite (floatOf (p .bits))))
 
   ifs-is : isIfsOn input e ≡ f
   unfolding isIfsOn
-  ifs-is = ap (holds (λ p. initiates (p .status))) here
+  ifs-is = ap (holds isIfs) here ∙ sym (initiates-means (p .status))
 
   came-is : came input (h ▷ e) ≡ u || (came input h && true)
   unfolding came since

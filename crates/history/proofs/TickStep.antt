@@ -71,7 +71,7 @@ module _ (a : Alarm) (h : History Event) (fault : Bool) (ain tot : Pair) (ainOut
   then = h ▷ ticked fault ain tot ainOut aoOut order
 
   alarm-then : stands a then ≡ cond (eqb (modeAt h fault 1) outOfService) false (alarmStands (a .low) (stands a h) (floatOf (stored h 1 (a .limit) .first)) (floatOf (stored h 1 19 .first)) (floatOf (ainOut .first)))
-  unfolding stands since raises clears alarmStands
+  unfolding stands since raises clears alarmStands rises falls
   alarm-then = go (eqb (modeAt h fault 1) outOfService) (since (raises a) (clears a) h)
     where
       r : Bool
@@ -132,7 +132,7 @@ acts-same true n ifs time h = stopped-decides true n ifs time h
 acts-same false n ifs time h = unfold failSafeActs in refl
 
 given-same : (input : ℕ) (h : History Event) → stored h 3 23 .first ≤ 65535 → Ao.givenByInput (aoAt h) (oldOut h) (inputAt input h) ≡ gives input h
-unfolding Ao.givenByInput caseOf gives isFailSafe inputAt aoAt aoBy
+unfolding Ao.givenByInput caseOf gives isFailSafe failSafeActs inputAt aoAt aoBy
 given-same input h small = ap (λ (b : Bool). Ao.givenBy (aoAt h) (oldOut h) (cond b (failSafeCase (stored h 3 24 .first) (floatOf (stored h 3 25 .first)) (came input h) (setpoint input h)) (following (setpoint input h)))) (acts-same (came input h) (silence input h) (ifs input h) (stored h 3 23 .first) small)
 
 -- in Auto and RCas, by the input that the mode uses

@@ -6,7 +6,7 @@ use mathlib.Core.List.{List}
 use mathlib.Core.Option.{Option, none, some}
 use lib.Dec.{eqb, ltb}
 use lib.IntN.{ℤ, pos}
-use lib.Ieee.{Float}
+use lib.Ieee.{Float, binary32, add, sub, lt, le}
 use lib.Ieee.Scale.{finite}
 use lib.ListN.{length}
 use Rattle.numbers.specs.Floats.{floatOf}
@@ -14,6 +14,7 @@ use Rattle.wire.specs.declared.Pair.{Pair}
 use Rattle.wire.specs.declared.Answer.{Answer}
 use Rattle.wire.specs.declared.Answer.the-variants.{Accepted, Refused}
 use Rattle.wire.specs.declared.Received.{Received}
+use Rattle.wire.specs.Status.{qualityOf, subStatusOf}
 use Rattle.wire.specs.Bytes.{pairOf}
 use Rattle.blocks.specs.declared.Kept.{Kept}
 use Rattle.blocks.specs.declared.Input.{Input}
@@ -22,13 +23,12 @@ use Rattle.blocks.specs.Common.{outOfService, auto, rcas, actualMode}
 use Rattle.blocks.specs.Common as Common
 use Rattle.ain.specs.declared.Settings.{Settings as AinSettings}
 use Rattle.ain.specs.Tick.{calculated, inputOf}
-use Rattle.ain.specs.Alarm.{rises, falls}
 use Rattle.tot.specs.declared.Settings.{Settings as TotSettings}
 use Rattle.tot.specs.Total.{sumOf, thousandthsOf}
 use Rattle.tot.specs.Tick.{tickAdds, tickRate}
 use Rattle.ao.specs.declared.Settings.{Settings as AoSettings}
 use Rattle.ao.specs.declared.Order.{Order}
-use Rattle.ao.specs.FailSafe.{Case, following, GivenOf, usable, initiates, failSafeActs, failSafeCase}
+use Rattle.ao.specs.FailSafe.{Case, following, GivenOf, failSafeCase}
 use Rattle.ao.specs.Tick.{givenBy}
 use Rattle.parameters.specs.declared.Words.{Words}
 use Rattle.parameters.specs.declared.Standing.{Standing}
@@ -162,15 +162,22 @@ lo = record { low = true; limit = 25 }
 abbrev pub loLo : Alarm
 loLo = record { low = true; limit = 27 }
 
+-- "a high one rises at OUT ≥ limit and falls at OUT < limit − ALARM_HYS; a low one rises at OUT ≤ limit and falls at OUT > limit + ALARM_HYS"
+abbrev pub reaches : Bool → Float → Float → Bool
+reaches low limit out = cond low (le out limit) (le limit out)
+
+abbrev pub leaves : Bool → Float → Float → Float → Bool
+leaves low limit hysteresis out = cond low (lt (add binary32 limit hysteresis) out) (lt out (sub binary32 limit hysteresis))
+
 -- "a past tick raised it, by limits then in force"
 unfoldable pub raises : Alarm → History Event → Event → Bool
 raises a h =
-    onTick (λ fault ain tot ainOut aoOut. not (eqb (modeAt h fault 1) outOfService) && rises (a .low) (floatOf (stored h 1 (a .limit) .first)) (floatOf (ainOut .first))) false false
+    onTick (λ fault ain tot ainOut aoOut. not (eqb (modeAt h fault 1) outOfService) && reaches (a .low) (floatOf (stored h 1 (a .limit) .first)) (floatOf (ainOut .first))) false false
 
 -- "a fall, an O/S tick .. a warm start"
 unfoldable pub clears : Alarm → History Event → Event → Bool
 clears a h =
-    onTick (λ fault ain tot ainOut aoOut. eqb (modeAt h fault 1) outOfService || falls (a .low) (floatOf (stored h 1 (a .limit) .first)) (floatOf (stored h 1 19 .first)) (floatOf (ainOut .first))) true false
+    onTick (λ fault ain tot ainOut aoOut. eqb (modeAt h fault 1) outOfService || leaves (a .low) (floatOf (stored h 1 (a .limit) .first)) (floatOf (stored h 1 19 .first)) (floatOf (ainOut .first))) true false
 
 -- "An alarm stands when a past tick raised it, by limits then in force, and neither a fall, an O/S tick nor a warm start came since."
 unfoldable pub stands : Alarm → History Event → Bool
@@ -223,12 +230,22 @@ abbrev pub holds : (Pair → Bool) → Option Pair → Bool
 holds p none = false
 holds p (some x) = p x
 
--- a usable telegram, and an initiate-fail-safe (IFS), on an input
+-- "A telegram is usable if quality is 2 or 3, sub-status isn't 8 and the value is finite; it is an initiate-fail-safe (IFS) if quality is 2 or 3 and sub-status 8."
+abbrev pub isGood : ℕ → Bool
+isGood status = eqb (qualityOf status) 2 || eqb (qualityOf status) 3
+
+abbrev pub isUsable : Pair → Bool
+isUsable p = isGood (p .status) && not (eqb (subStatusOf (p .status)) 8) && finite (floatOf (p .bits))
+
+abbrev pub isIfs : Pair → Bool
+isIfs p = isGood (p .status) && eqb (subStatusOf (p .status)) 8
+
+-- such a telegram on an input
 unfoldable pub isUsableOn : ℕ → Event → Bool
-isUsableOn input e = holds (λ p. usable (p .status) (finite (floatOf (p .bits)))) (pairOn input e)
+isUsableOn input e = holds isUsable (pairOn input e)
 
 unfoldable pub isIfsOn : ℕ → Event → Bool
-isIfsOn input e = holds (λ p. initiates (p .status)) (pairOn input e)
+isIfsOn input e = holds isIfs (pairOn input e)
 
 -- "no usable telegram came since start" is its negation
 unfoldable pub came : ℕ → History Event → Bool
@@ -259,7 +276,7 @@ ifs input = since (λ h e. isIfsOn input e) (λ h e. isUsableOn input e || isSta
 
 -- "fail-safe acts when no usable telegram came since start, or n > FSAFE_TIME, or the last usable-or-IFS one was IFS"
 unfoldable pub isFailSafe : ℕ → History Event → Bool
-isFailSafe input h = failSafeActs (came input h) (silence input h) (ifs input h) (stored h 3 23 .first)
+isFailSafe input h = not (came input h) || ltb (stored h 3 23 .first) (silence input h) || ifs input h
 
 -- "Old OUT is the value after the tick before, at first 0."
 unfoldable pub oldOut : History Event → ℕ
