@@ -38,6 +38,7 @@ use Rattle.device.specs.Factory.{Valuation, ainBy, totBy, aoBy, factoryDevice}
 use Rattle.history.specs.Past.{History, start, _▷_, count, countSince, since, latest, told, carried}
 use Rattle.history.specs.Calls.{Event, ticked, telegram, wrote, warmed}
 use Rattle.history.specs.Rules.{stored, wordsTo, never, orDefault, isStaticWrite, stRev, ainAt, totAt, aoAt, filterValue, Alarm, hiHi, hi, lo, loLo, stands, rateValue, total, oldOut, came, setpoint, setpointOn, silence, ifs, isTick, isStart, pairOn, holds, isUsableOn, isIfsOn, raises, clears, orZero}
+use Rattle.history.proofs.Truth.{and-true}
 
 -- a setpoint input by the rules; the count stops at 65,536
 unfoldable pub inputAt : ℕ → History Event → Setpoint
@@ -83,10 +84,6 @@ agrees-start = record {
 }
 
 -- ---- what leaves a rule's value as it was
-
-and-true : (b : Bool) → b && true ≡ b
-and-true true = refl
-and-true false = refl
 
 pub since-still : {E : Type 0} (r c : History E → E → Bool) (h : History E) (e : E) → r h e ≡ false → c h e ≡ false → since r c (h ▷ e) ≡ since r c h
 unfolding since

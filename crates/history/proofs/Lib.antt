@@ -1,3 +1,4 @@
+pub mod Truth
 pub mod Sound
 pub mod Agrees
 pub mod Telegrams

@@ -39,16 +39,9 @@ use Rattle.history.specs.Rules.{stored, ainAt, totAt, aoAt, stRev, alarm
 use Rattle.history.specs.Claim.{storedEntry}
 use Rattle.history.proofs.Sound.{Sound}
 use Rattle.history.proofs.Agrees.{Agrees, alarmsAt}
+use Rattle.history.proofs.Truth.{left, right}
 
 -- ---- words that were allowed read back
-
-left : (a b : Bool) → T (a && b) → T a
-left true b t = tt
-left false b t = t
-
-right : (a b : Bool) → T (a && b) → T b
-right true b t = t
-right false b t = absurd t
 
 true-of : (b : Bool) → T b → b ≡ true
 true-of true t = refl

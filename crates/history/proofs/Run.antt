@@ -18,6 +18,7 @@ use Rattle.history.specs.Calls.{Call, fitting, allFit, after, reachedFro
 use Rattle.history.specs.Encoded.{wordAt, pairAt, lengthAt, tickFound, writeFound, telegramFound, stepAt, isMalformed, callOf, more, callsFrom, decoded, Replays}
 use Rattle.history.proofs.Theorem.{demand-3}
 use Rattle.history.proofs.PointsProof.{points}
+use Rattle.history.proofs.Truth.{both}
 
 -- what the loop computes from a place on
 pub runFrom : ℕ → List ℕ → ℕ → Device → Option Device
@@ -80,10 +81,6 @@ module _ (s : List ℕ) (bytes : (i : ℕ) → getD s i 0 < 256) where
   word-small : (at : ℕ) → wordAt s at < 2 ^ 32
   unfolding wordAt
   word-small at = omega (arith, bytes at, bytes (at + 1), bytes (at + 2), bytes (at + 3))
-
-  both : (a b : Bool) → T a → T b → T (a && b)
-  both true b x y = y
-  both false b x y = x
 
   step-fits : (at : ℕ) → T (fitting (callOf s at (stepAt s at .step)))
   unfolding stepAt tickFound writeFound telegramFound

@@ -23,6 +23,7 @@ use Rattle.parameters.specs.Refused.{readOnly, output, targetIn, ground, ground
 use Rattle.history.specs.Past.{History, start, _▷_, latest}
 use Rattle.history.specs.Calls.{Event, wrote}
 use Rattle.history.specs.Rules.{stored, isAccepted}
+use Rattle.history.proofs.Truth.{left, right, both}
 
 abbrev fits : Words → Bool
 fits w = ltb (w .first) (2 ^ 32) && ltb (w .second) (2 ^ 32)
@@ -46,14 +47,6 @@ rowSound r = sound (Parameter (r .class) (r .allowed)) (r .default)
 abbrev every : List Row → Bool
 every [] = true
 every (r ∷ rows) = rowSound r && every rows
-
-left : (a b : Bool) → T (a && b) → T a
-left true b t = tt
-left false b t = t
-
-right : (a b : Bool) → T (a && b) → T b
-right true b t = t
-right false b t = absurd t
 
 in-rows : (rows : List Row) (number : ℕ) → T (every rows) → T (sound (entryIn rows number) (defaultIn rows number))
 unfolding entryIn defaultIn
@@ -96,10 +89,6 @@ unfolding stored latest
 sound-start block number = defaults block number
 
 -- ---- an accepted write
-both : (a b : Bool) → T a → T b → T (a && b)
-both true b s t = t
-both false b s t = s
-
 accepted-sound : (s : Standing) (block a b : ℕ) (e : Entry) → T (isAccepted (groundBy s block a b e)) → T (fits (words a b)) → T (sound e (words a b))
 accepted-sound s block a b NoBlock t f = tt
 accepted-sound s block a b NoParameter t f = tt

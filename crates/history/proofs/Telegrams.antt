@@ -27,14 +27,7 @@ use Rattle.history.specs.Past.{History, _▷_, count, countSince, since,
 use Rattle.history.specs.Calls.{Event, telegram, warmed}
 use Rattle.history.specs.Rules.{stored, ainAt, totAt, aoAt, stRev, filterValue, Alarm, hiHi, hi, lo, loLo, stands, raises, clears, rateValue, oldOut, total, came, setpoint, silence, ifs, isTick, isStart, pairOn, valueOn, holds, isUsableOn, isIfsOn}
 use Rattle.history.proofs.Agrees.{inputAt, alarmsAt, Agrees, alarms-still, input-still}
-
-and-true : (b : Bool) → b && true ≡ b
-and-true true = refl
-and-true false = refl
-
-and-false : (b : Bool) → b && false ≡ false
-and-false true = refl
-and-false false = refl
+use Rattle.history.proofs.Truth.{and-true, and-false}
 
 -- an input by its four parts
 abbrev made : Bool → lib.Ieee.Float → ℕ → Bool → Setpoint

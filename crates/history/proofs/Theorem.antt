@@ -39,6 +39,7 @@ use Rattle.history.proofs.Agrees.{Agrees, agrees-start, agrees-wrote}
 use Rattle.history.proofs.Telegrams.{agrees-telegram, telegram-refused, agrees-warm}
 use Rattle.history.proofs.TickStep.{agrees-tick, claim-tick}
 use Rattle.history.proofs.ReadBack.{parameters-read, revisions-read, alarms-read}
+use Rattle.history.proofs.Truth.{left, right}
 
 -- what holds of a device and the accepted events
 pub record Holds (d : Device) (h : History Event) : Type 0 where
@@ -112,14 +113,6 @@ step d t (tick fault ain tot) fit H = tick-step d (accepted t) fault ain tot H
 step d t (Call.telegram input bytes) fit H = telegram-step d (accepted t) input bytes H
 step d t (write block number a b) fit H = write-step d (accepted t) block number a b fit H
 step d t warmStart fit H = record { agrees = agrees-warm (accepted t) d (H .agrees); sound = unfold stored latest in H .sound; ticks = (H .ticks, tt) }
-
-left : (a b : Bool) → T (a && b) → T a
-left true b t = tt
-left false b t = t
-
-right : (a b : Bool) → T (a && b) → T b
-right true b t = t
-right false b t = absurd t
 
 -- a list of calls
 run : (cs : List Call) (d : Device) (t : History Event) → T (allFit cs) → Holds d (accepted t) → Holds (reachedFrom d cs) (accepted (traceFrom d t cs))

@@ -42,10 +42,7 @@ use Rattle.history.specs.Claim.{TickClaim, follows}
 use Rattle.history.proofs.Agrees.{inputAt, alarmsAt, Agrees, not-usable, came-same, ifs-same, setpoint-same}
 use Rattle.history.proofs.Sound.{Sound, sound}
 use Rattle.history.proofs.Ticks.{IsMode, IsAoMode, ao-target, target, mode, ao-mode, ain-filter, ain-alarms, tot-rate, tot-total}
-
-left : (a b : Bool) → T (a && b) → T a
-left true b t = tt
-left false b t = t
+use Rattle.history.proofs.Truth.{left}
 
 -- ---- what stands at the tick
 

@@ -25,6 +25,7 @@ use Rattle.tot.specs.declared.State.{State as TotState}
 use Rattle.tot.specs.Total.{nextTotal, sumOf, thousandthsOf}
 use Rattle.tot.specs.Tick as Tot
 use Rattle.history.specs.Rules.{whereUsable, totalBy}
+use Rattle.history.proofs.Truth.{left}
 
 -- ---- the modes
 
@@ -35,10 +36,6 @@ IsMode m = (m ≡ outOfService) ⊎ ((m ≡ man) ⊎ (m ≡ auto))
 -- and of AO
 abbrev pub IsAoMode : ℕ → Type 0
 IsAoMode m = IsMode m ⊎ (m ≡ rcas)
-
-left : (a b : Bool) → T (a && b) → T a
-left true b t = tt
-left false b t = t
 
 either : (a b : Bool) → T (a || b) → T a ⊎ T b
 either true b t = inl tt

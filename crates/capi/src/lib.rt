@@ -1,0 +1,191 @@
+// The device's calls for C, declared in include/serkoviu.h. Each export makes the device's call of the same name;
+// orders, answers and readings cross as numbers, since an enum does not cross to C. A block's part of an image has no
+// export, since a returned reference does not cross either. A tick works on the caller's device in place, block by
+// block: the compiler then copies no block, and holds the fields of one at a time.
+ghost use mathlib.Core.Path.{_≡_};
+ghost use Rattle.wire.specs.Refusal.{answerNumber};
+ghost use Rattle.wire.specs.Image.{imageAnswer, imageBytes};
+ghost use Rattle.device.specs.Factory.{factoryDevice};
+ghost use Rattle.device.specs.Read.{readOf};
+ghost use Rattle.device.specs.Calls.{writeOf, tickOf, telegramOf, warmStarted};
+ghost use Rattle.capi.specs.Blocks.{ainTicked, totTicked, aoTicked};
+ghost use Rattle.capi.specs.Numbers.{orderNumbers, answeredNumbers, readingNumbers};
+use device::AinBlock;
+use device::AoBlock;
+use device::Device;
+use device::TotBlock;
+use wire::Pair;
+
+// A drive order: kind 0 Position, 1 Safe, 2 Rest; the value is 0 where the kind is not 0.
+#[repr(C)]
+pub struct OrderNumbers {
+    pub kind: u8,
+    pub value: f32,
+}
+
+// AO after a tick, and its drive order.
+struct AoTicked {
+    block: AoBlock,
+    order: OrderNumbers,
+}
+
+// The device after a call, and the call's number: 0 accepted, else the number of the ground of refusal.
+#[repr(C)]
+pub struct AnsweredNumbers {
+    pub device: Device,
+    pub answer: u8,
+}
+
+// A read's number and words; both words are 0 where it is refused.
+#[repr(C)]
+pub struct ReadingNumbers {
+    pub answer: u8,
+    pub first: u32,
+    pub second: u32,
+}
+
+fn order_numbers(order: ao::Order) -> OrderNumbers
+    ensures { λ r. ⌜ r ≡ orderNumbers order ⌝ }
+{
+    match order {
+        ao::Order::Position(x) => OrderNumbers { kind: 0, value: x },
+        ao::Order::Safe => OrderNumbers {
+            kind: 1,
+            value: 0.0,
+        },
+        ao::Order::Rest => OrderNumbers {
+            kind: 2,
+            value: 0.0,
+        },
+    }
+}
+
+#[no_mangle]
+pub extern "C" fn serkoviu_factory() -> Device
+    ensures { λ r. ⌜ r ≡ factoryDevice ⌝ }
+{
+    device::factory()
+}
+
+fn ain_ticked(b: AinBlock, fault: bool, pair: Pair) -> AinBlock
+    ensures { λ r. ⌜ r ≡ ainTicked b fault pair ⌝ }
+{
+    let state = ain::tick(b.settings, b.state, fault, pair.bits, pair.status);
+    let mut next = b;
+    next.state = state;
+    next
+}
+
+fn tot_ticked(b: TotBlock, fault: bool, pair: Pair) -> TotBlock
+    ensures { λ r. ⌜ r ≡ totTicked b fault pair ⌝ }
+{
+    let state = tot::tick(b.settings, b.state, fault, pair.bits, pair.status);
+    let mut next = b;
+    next.state = state;
+    next
+}
+
+fn ao_ticked(b: AoBlock, fault: bool) -> AoTicked
+    ensures { λ r. ⌜ r ≡ aoTicked b fault ⌝ }
+{
+    let ticked = ao::tick(b.settings, b.state, fault);
+    let state = ticked.state;
+    let order = ticked.order;
+    let numbers = order_numbers(order);
+    let mut next = b;
+    next.state = state;
+    AoTicked {
+        block: next,
+        order: numbers,
+    }
+}
+
+#[no_mangle]
+pub extern "C" fn serkoviu_tick(d: &mut Device, fault: bool, ain: Pair, tot: Pair) -> OrderNumbers
+    ensures { λ r. ⌜ (r ≡ orderNumbers (tickOf (now (d .entry)) fault ain tot .order)) × (now (d .exit) ≡ tickOf (now (d .entry)) fault ain tot .device) ⌝ }
+{
+    d.ain = ain_ticked(d.ain, fault, ain);
+    d.tot = tot_ticked(d.tot, fault, tot);
+    let ticked = ao_ticked(d.ao, fault);
+    d.ao = ticked.block;
+    ticked.order
+}
+
+#[no_mangle]
+pub extern "C" fn serkoviu_telegram(d: Device, input: u8, bytes: &[u8]) -> AnsweredNumbers
+    ensures { λ r. ⌜ r ≡ answeredNumbers (telegramOf d input (now (bytes .entry))) ⌝ }
+{
+    let taken = device::telegram(d, input, bytes);
+    let next = taken.device;
+    let answer = taken.answer;
+    let number = wire::answer_number(answer);
+    AnsweredNumbers {
+        device: next,
+        answer: number,
+    }
+}
+
+#[no_mangle]
+pub extern "C" fn serkoviu_write(
+    d: Device,
+    block: u8,
+    parameter: u8,
+    first: u32,
+    second: u32,
+) -> AnsweredNumbers
+    ensures { λ r. ⌜ r ≡ answeredNumbers (writeOf d block parameter first second) ⌝ }
+{
+    let written = device::write(d, block, parameter, first, second);
+    let next = written.device;
+    let answer = written.answer;
+    let number = wire::answer_number(answer);
+    AnsweredNumbers {
+        device: next,
+        answer: number,
+    }
+}
+
+#[no_mangle]
+pub extern "C" fn serkoviu_read(d: Device, block: u8, parameter: u8) -> ReadingNumbers
+    ensures { λ r. ⌜ r ≡ readingNumbers (readOf d block parameter) ⌝ }
+{
+    let reading = device::read(d, block, parameter);
+    match reading {
+        device::Reading::Read(words) => ReadingNumbers {
+            answer: 0,
+            first: words.first,
+            second: words.second,
+        },
+        device::Reading::Refused(refusal) => {
+            let number = wire::refusal_number(refusal);
+            ReadingNumbers {
+                answer: number,
+                first: 0,
+                second: 0,
+            }
+        }
+    }
+}
+
+#[no_mangle]
+pub extern "C" fn serkoviu_warm_start(d: Device) -> Device
+    ensures { λ r. ⌜ r ≡ warmStarted d ⌝ }
+{
+    device::warm_start(d)
+}
+
+#[no_mangle]
+pub extern "C" fn serkoviu_image(d: Device, buf: &mut [u8]) -> u8
+    ensures { λ r. ⌜ r ≡ answerNumber (imageAnswer (now (buf .entry))) ⌝ }
+    ensures { λ _. ⌜ now (buf .exit) ≡ imageBytes (now (buf .entry)) (d .ain .state .out) (d .tot .state .out) (d .ao .state .out) ⌝ }
+{
+    let answer = device::image(d, buf);
+    wire::answer_number(answer)
+}
+
+#[no_mangle]
+pub extern "C" fn serkoviu_total(d: Device) -> i64
+    ensures { λ r. ⌜ r ≡ d .tot .state .total ⌝ }
+{
+    device::total(d)
+}

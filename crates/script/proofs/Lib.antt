@@ -1,0 +1,2 @@
+-- What several proofs of `script` cite.
+mod Told

@@ -1,0 +1,47 @@
+-- `script::answers::put_total` meets its contract: the parts are put one after another, as the definition has it.
+use mir.Syntax.{w64}
+use mir.ValLaws.{toZ-ofZ}
+use Rattle.script.specs.Answer.{placeAfterAll, allPut}
+use borrow.Author.Needs.{needs}
+use Rattle.script.proofs.answers.put_total.Statement.{statement}
+use Rattle.script.proofs.answers.put_total.Tie as tie
+
+slice-aggregate-put-bytes : tie.Need-slice-aggregate-put-bytes
+slice-aggregate-put-bytes c = search needs
+
+put-bytes-requires : tie.Need-put-bytes-requires
+put-bytes-requires c κs = search needs
+
+put-signed-requires : tie.Need-put-signed-requires
+put-signed-requires c κs = search needs
+
+slice-aggregate-put-bytes-2 : tie.Need-slice-aggregate-put-bytes-2
+slice-aggregate-put-bytes-2 c = search needs
+
+put-bytes-requires-2 : tie.Need-put-bytes-requires-2
+put-bytes-requires-2 c κs = search needs
+
+same-length : tie.Need-same-length
+same-length c = search needs
+
+returns : tie.Need-returns
+unfolding placeAfterAll allPut
+returns c =
+    let s = c .before .before .before .before .before .before .before .before .before .before .before .before .before .before .before in
+    let z = toZ-ofZ w64 (s .args .total) (s .fits .total) in
+    let e = rw z at (c .before .before .before .before .before .before .before .put-signed .ensures) in
+    let f = c .before .before .put-bytes2 .ensures in
+    let d = c .before .before .before .before .before .before .before .before .before .before .before .put-bytes .ensures in
+    (rw (f .0, e .0, e .1, d .0, d .1), rw (f .1, e .0, e .1, d .0, d .1))
+
+pub put-total-spec : {M : Type 1} → statement M
+put-total-spec =
+    tie.close
+    (tie.spec
+    slice-aggregate-put-bytes
+    put-bytes-requires
+    put-signed-requires
+    slice-aggregate-put-bytes-2
+    put-bytes-requires-2
+    same-length
+    returns)

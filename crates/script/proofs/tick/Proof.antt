@@ -1,0 +1,81 @@
+-- `script::tick` meets its contract: `numbers` tells whether the words fit and gives their values, which are within their limits.
+use Rattle.script.proofs.Told.{told}
+use Rattle.script.specs.Command.{tickCall}
+use Prim.Native.Nat.{ℕ, _≤_, _<_}
+use native.Mathlib.Omega.{arith}
+use lib.ListN.{length, getD}
+use mathlib.Core.List.{List, [], _∷_}
+use Rattle.script.specs.Laws.{fitting-within}
+use borrow.Author.Needs.{needs}
+use Rattle.script.proofs.tick.Statement.{statement}
+use Rattle.script.proofs.tick.Tie as tie
+
+abbrev limits : List ℕ
+limits = 1 ∷ 4294967295 ∷ 255 ∷ 4294967295 ∷ 255 ∷ []
+
+-- each value is within its limit
+within : (c : tie.Then1) (k : ℕ) → k < length limits → getD (c .before .before .numbers .last .1 .1 .1 .0) k 0 ≤ getD limits k 0
+within c k h = rw (c .before .before .numbers .ensures .1) (fitting-within limits _ k (told (c .before .before .numbers .ensures .0) (c .if1 .taken)) h)
+
+slice-aggregate-numbers : tie.Need-slice-aggregate-numbers
+slice-aggregate-numbers c = search needs
+
+slice-aggregate-numbers-2 : tie.Need-slice-aggregate-numbers-2
+slice-aggregate-numbers-2 c = search needs
+
+numbers-requires : tie.Need-numbers-requires
+numbers-requires c κs = search needs
+
+array-read-fault : tie.Need-array-read-fault
+array-read-fault c = search needs
+
+array-read-t14 : tie.Need-array-read-t14
+array-read-t14 c = search needs
+
+cast-t17 : tie.Need-cast-t17
+cast-t17 c = omega (arith, within c 1 (omega arith))
+
+array-read-t20 : tie.Need-array-read-t20
+array-read-t20 c = search needs
+
+cast-t21 : tie.Need-cast-t21
+cast-t21 c = omega (arith, within c 2 (omega arith))
+
+array-read-t24 : tie.Need-array-read-t24
+array-read-t24 c = search needs
+
+cast-t25 : tie.Need-cast-t25
+cast-t25 c = omega (arith, within c 3 (omega arith))
+
+array-read-t28 : tie.Need-array-read-t28
+array-read-t28 c = search needs
+
+cast-t29 : tie.Need-cast-t29
+cast-t29 c = omega (arith, within c 4 (omega arith))
+
+returns : tie.Need-returns
+unfolding tickCall
+returns c = rw (told (c .before .before .numbers .ensures .0) (c .if1 .taken), c .before .before .numbers .ensures .1)
+
+returns-2 : tie.Need-returns-2
+unfolding tickCall
+returns-2 c = rw (told (c .before .before .numbers .ensures .0) (c .if1 .left))
+
+pub tick-spec : {M : Type 1} → statement M
+tick-spec =
+    tie.close
+    (tie.spec
+    slice-aggregate-numbers
+    slice-aggregate-numbers-2
+    numbers-requires
+    array-read-fault
+    array-read-t14
+    cast-t17
+    array-read-t20
+    cast-t21
+    array-read-t24
+    cast-t25
+    array-read-t28
+    cast-t29
+    returns
+    returns-2)

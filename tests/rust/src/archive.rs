@@ -1,0 +1,149 @@
+//! The proved head: the calls that `libcapi.a` exports, declared as `include/serkoviu.h` declares them.
+
+use std::mem::{align_of, offset_of, size_of};
+
+use crate::calls::{Head, Order};
+use crate::model::Model;
+
+/// How a struct lies in memory.
+pub struct Layout {
+    pub name: &'static str,
+    pub size: usize,
+    pub alignment: usize,
+    /// Name, type and offset.
+    pub fields: &'static [(&'static str, &'static str, usize)],
+}
+
+/// Declares structs as C lays them out, and `LAYOUTS`, a list of their layouts.
+macro_rules! c_structs {
+    ($($name:ident { $($field:ident: $type:ident),* })*) => {
+        $(#[repr(C)]
+        #[derive(Clone, Copy, Debug, PartialEq)]
+        pub struct $name { $(pub $field: $type),* })*
+
+        pub const LAYOUTS: &[Layout] = &[$(Layout {
+            name: stringify!($name),
+            size: size_of::<$name>(),
+            alignment: align_of::<$name>(),
+            fields: &[$((stringify!($field), stringify!($type), offset_of!($name, $field))),*],
+        }),*];
+    };
+}
+
+c_structs! {
+    Pair { bits: u32, status: u8 }
+    Scale { low: f32, high: f32 }
+    Kept { some: bool, value: f32 }
+    AinSettings {
+        target: u32, pv_scale: Scale, out_scale: Scale, pv_ftime: f32, fsafe_type: u32, fsafe_value: f32, alarm_hys: f32,
+        hi_hi_lim: f32, hi_lim: f32, lo_lim: f32, lo_lo_lim: f32
+    }
+    Alarms { hi_hi: bool, hi: bool, lo: bool, lo_lo: bool }
+    AinState { out: Pair, mode: u32, filter: Kept, last: Kept, operator: Pair, alarms: Alarms }
+    TotSettings { target: u32, set_tot: u32, mode_tot: u32, fail_tot: u32, preset_tot: f32 }
+    TotState { total: i64, out: Pair, mode: u32, rate: Kept, operator_status: u8 }
+    AoSettings {
+        target: u32, pv_scale: Scale, out_scale: Scale, fsafe_time: u32, fsafe_type: u32, fsafe_value: f32,
+        increase_close: u32
+    }
+    AoInput { some: bool, value: f32, silence: u32, ifs: bool }
+    AoState { out: Pair, mode: u32, operator: Pair, sp: AoInput, rcas_in: AoInput }
+    AinBlock { settings: AinSettings, state: AinState, st_rev: u16 }
+    TotBlock { settings: TotSettings, state: TotState, st_rev: u16 }
+    AoBlock { settings: AoSettings, state: AoState, st_rev: u16 }
+    Device { write_locking: u32, ain: AinBlock, tot: TotBlock, ao: AoBlock }
+    OrderNumbers { kind: u8, value: f32 }
+    AnsweredNumbers { device: Device, answer: u8 }
+    ReadingNumbers { answer: u8, first: u32, second: u32 }
+}
+
+#[link(name = "capi", kind = "static")]
+extern "C" {
+    fn serkoviu_factory() -> Device;
+    fn serkoviu_tick(device: *mut Device, fault: bool, ain: Pair, tot: Pair) -> OrderNumbers;
+    fn serkoviu_telegram(device: Device, input: u8, bytes: *const u8, length: usize) -> AnsweredNumbers;
+    fn serkoviu_write(device: Device, block: u8, parameter: u8, first: u32, second: u32) -> AnsweredNumbers;
+    fn serkoviu_read(device: Device, block: u8, parameter: u8) -> ReadingNumbers;
+    fn serkoviu_warm_start(device: Device) -> Device;
+    fn serkoviu_image(device: Device, buffer: *mut u8, length: usize) -> u8;
+    fn serkoviu_total(device: Device) -> i64;
+}
+
+/// A device of the archive's.
+pub struct Archive {
+    pub device: Device,
+}
+
+fn accepted(answer: u8) -> Result<(), u8> {
+    match answer {
+        0 => Ok(()),
+        number => Err(number),
+    }
+}
+
+impl Archive {
+    pub fn factory() -> Archive {
+        Archive { device: unsafe { serkoviu_factory() } }
+    }
+
+    /// A tick as C makes it.
+    pub fn tick_in_numbers(&mut self, fault: bool, ain: Pair, tot: Pair) -> OrderNumbers {
+        unsafe { serkoviu_tick(&mut self.device, fault, ain, tot) }
+    }
+}
+
+// The calls are safe: the archive's contracts ask nothing of their arguments, and a reference is a valid pointer.
+impl Head for Archive {
+    fn factory(&mut self) {
+        *self = Archive::factory();
+    }
+
+    fn tick(&mut self, fault: bool, ain_bits: u32, ain_status: u8, tot_bits: u32, tot_status: u8) -> Order {
+        let ain = Pair { bits: ain_bits, status: ain_status };
+        let tot = Pair { bits: tot_bits, status: tot_status };
+        let order = self.tick_in_numbers(fault, ain, tot);
+        match (order.kind, order.value.to_bits()) {
+            (0, bits) => Order::Position(bits),
+            (1, 0) => Order::Safe,
+            (2, 0) => Order::Rest,
+            other => panic!("no such order: {other:?}"),
+        }
+    }
+
+    fn telegram(&mut self, input: u8, bytes: &[u8]) -> Result<(), u8> {
+        let taken = unsafe { serkoviu_telegram(self.device, input, bytes.as_ptr(), bytes.len()) };
+        self.device = taken.device;
+        accepted(taken.answer)
+    }
+
+    fn write(&mut self, block: u8, parameter: u8, w1: u32, w2: u32) -> Result<(), u8> {
+        let written = unsafe { serkoviu_write(self.device, block, parameter, w1, w2) };
+        self.device = written.device;
+        accepted(written.answer)
+    }
+
+    fn read(&self, block: u8, parameter: u8) -> Result<(u32, u32), u8> {
+        match unsafe { serkoviu_read(self.device, block, parameter) } {
+            ReadingNumbers { answer: 0, first, second } => Ok((first, second)),
+            ReadingNumbers { answer, first: 0, second: 0 } => Err(answer),
+            other => panic!("a refused read with words: {other:?}"),
+        }
+    }
+
+    fn warm_start(&mut self) {
+        self.device = unsafe { serkoviu_warm_start(self.device) };
+    }
+
+    fn image(&self, buf: &mut [u8]) -> Result<(), u8> {
+        accepted(unsafe { serkoviu_image(self.device, buf.as_mut_ptr(), buf.len()) })
+    }
+
+    /// Has no export: a returned part of a buffer does not cross to C. The model's own stands in, which compares nothing.
+    fn part<'a>(&self, block: u8, buf: &'a [u8]) -> &'a [u8] {
+        Model::part(block, buf)
+    }
+
+    fn total(&self) -> i64 {
+        unsafe { serkoviu_total(self.device) }
+    }
+}

@@ -1,0 +1,551 @@
+//! Random and hostile histories. Drawn evenly, nearly every write would be refused and no value would ever lie at a
+//! limit; so each history has a profile of weights, and the maker keeps a model of its own to see what is in force.
+//! A history is a plain list of calls and depends on its seed and index alone.
+
+use crate::calls::{Bytes, Call};
+use crate::compare::PARAMETERS;
+use crate::model::Model;
+use crate::random::Random;
+
+/// Histories of a default run, about six million calls.
+pub const HISTORIES: u64 = 20_480;
+/// One history in so many is a long one: a silence past 65,535 ticks, or as many writes.
+const LONG_EVERY: u64 = 1_024;
+
+pub fn histories(seed: u64, number: u64) -> impl Iterator<Item = Vec<Call>> {
+    (0..number).map(move |index| history(seed, index))
+}
+
+pub fn history(seed: u64, index: u64) -> Vec<Call> {
+    let mut maker = Maker {
+        random: Random::new(seed ^ index.wrapping_mul(0xD134_2543_DE82_EF95)),
+        model: Model::factory(),
+        calls: Vec::new(),
+        profile: &PROFILES[(index % PROFILES.len() as u64) as usize],
+    };
+    if index % LONG_EVERY == LONG_EVERY - 1 {
+        match index / LONG_EVERY % 4 {
+            1 => maker.many_writes(),
+            _ => maker.long_silence(),
+        }
+    } else {
+        let length = maker.random.pick(&[10, 30, 60, 100, 150, 300, 1000]);
+        maker.opening();
+        while maker.calls.len() < length {
+            maker.call();
+        }
+    }
+    maker.calls
+}
+
+struct Profile {
+    /// Weights of tick, telegram, write, read, warm start, factory, image, part and total.
+    calls: [u32; 9],
+    /// Weights of the blocks in writes.
+    blocks: [u32; 4],
+    /// Per cent of writes and telegrams that are meant to be refused.
+    hostile: u32,
+    /// Per cent of ticks with the fault flag.
+    fault: u32,
+    /// Per cent of statuses that are not plainly Good.
+    odd: u32,
+    /// Per cent of floats from the far ends: NaNs, infinities, subnormals, the largest.
+    wild: u32,
+    /// Per cent of scales left plain, so that a value can be aimed at a limit exactly.
+    plain: u32,
+    /// Totals near ±10^12 and rates of that size.
+    great: bool,
+}
+
+const BASE: Profile = Profile {
+    calls: [1000, 120, 250, 20, 3, 1, 3, 3, 3],
+    blocks: [1, 8, 8, 8],
+    hostile: 4,
+    fault: 2,
+    odd: 25,
+    wild: 4,
+    plain: 50,
+    great: false,
+};
+
+const PROFILES: [Profile; 10] = [
+    BASE,
+    // AIN: limits and hysteresis rewritten under standing alarms.
+    Profile { calls: [1000, 5, 350, 20, 4, 1, 3, 1, 1], blocks: [1, 60, 2, 2], odd: 12, plain: 80, ..BASE },
+    // AIN: filter and scales.
+    Profile { calls: [1000, 5, 200, 20, 4, 1, 3, 1, 1], blocks: [1, 60, 2, 2], odd: 30, plain: 20, ..BASE },
+    // TOT: small rates, then great ones.
+    Profile { calls: [1000, 5, 200, 20, 4, 1, 3, 1, 9], blocks: [1, 2, 60, 2], odd: 30, ..BASE },
+    Profile { calls: [1000, 5, 120, 20, 4, 1, 3, 1, 9], blocks: [1, 2, 60, 2], odd: 15, great: true, ..BASE },
+    // AO: telegrams and silence.
+    Profile { calls: [1000, 250, 150, 20, 4, 1, 3, 1, 1], blocks: [1, 2, 2, 60], odd: 30, ..BASE },
+    Profile { calls: [1000, 120, 60, 20, 10, 1, 3, 1, 1], blocks: [1, 2, 2, 60], odd: 20, wild: 1, ..BASE },
+    // Refusals of all kinds, often locked.
+    Profile { calls: [300, 200, 600, 200, 5, 5, 60, 60, 5], blocks: [8, 8, 8, 8], hostile: 50, ..BASE },
+    // The far ends of the floats.
+    Profile { calls: [1000, 120, 350, 20, 4, 1, 3, 3, 3], wild: 45, plain: 60, odd: 15, ..BASE },
+    // Modes: faults, Man, O/S, warm starts.
+    Profile { calls: [1000, 150, 450, 20, 30, 3, 3, 3, 3], fault: 12, ..BASE },
+];
+
+#[rustfmt::skip]
+const FAR_ENDS: [u32; 22] = [
+    0x0000_0000, 0x8000_0000, // zeros
+    0x0000_0001, 0x8000_0001, 0x007F_FFFF, 0x0080_0000, 0x8080_0000, // around the least normal
+    0x7F7F_FFFF, 0xFF7F_FFFF, 0x7F00_0000, 0xFF00_0000, 0x7E80_0000, 0x7F61_B1E6, 0xFF61_B1E6, // the largest, ±3e38
+    0x7F80_0000, 0xFF80_0000, // infinities
+    0x7FC0_0000, 0xFFC0_0000, 0x7F80_0001, 0xFF80_0001, 0x7FFF_FFFF, 0xFFFF_FFFF, // NaNs
+];
+
+const PLAIN_SCALES: [(f32, f32); 4] = [(0.0, 1.0), (0.0, 64.0), (0.0, 100.0), (-32.0, 32.0)];
+#[rustfmt::skip]
+const OTHER_SCALES: [(f32, f32); 12] = [
+    (4.0, 20.0), (3.0, 15.0), (-50.0, 50.0), (100.0, 0.0), (20.0, 4.0), (-0.0, 100.0), (-0.0, -100.0), (0.1, 0.7),
+    (1e-45, 0.0), (-3e38, 3e38), (3e38, -3e38), (1.0, 1e-30),
+];
+
+struct Maker {
+    random: Random,
+    model: Model,
+    calls: Vec<Call>,
+    profile: &'static Profile,
+}
+
+impl Maker {
+    fn push(&mut self, call: Call) {
+        call.on(&mut self.model);
+        self.calls.push(call);
+    }
+
+    /// First word of a parameter that exists, as a float.
+    fn in_force(&self, block: u8, parameter: u8) -> f32 {
+        f32::from_bits(self.model.read(block, parameter).map_or(0, |words| words.0))
+    }
+
+    fn scale_in_force(&self, block: u8, parameter: u8) -> (f64, f64) {
+        let (low, high) = self.model.read(block, parameter).unwrap_or((0, 1));
+        (f32::from_bits(low).into(), f32::from_bits(high).into())
+    }
+
+    /// Some accepted writes, so that a history does not start with the defaults.
+    fn opening(&mut self) {
+        for _ in 0..self.random.below(12) {
+            self.allowed_write();
+        }
+    }
+
+    fn call(&mut self) {
+        match self.random.weighted(&self.profile.calls) {
+            0 => self.ticks(),
+            1 => self.telegram(),
+            2 if self.random.chance(self.profile.hostile) => self.hostile_write(),
+            2 => self.allowed_write(),
+            3 => {
+                let (block, parameter) = self.parameter();
+                let unknown = (self.random.below(6) as u8, self.random.byte());
+                let read = if self.random.chance(70) { (block, parameter) } else { unknown };
+                self.push(Call::Read(read.0, read.1));
+            }
+            4 => self.push(Call::Warm),
+            5 => self.push(Call::Factory),
+            6 => {
+                let length = self.random.pick(&[0, 1, 5, 10, 14, 15, 16, 17, 20, 64]);
+                self.push(Call::Image(length));
+            }
+            7 => {
+                let block = if self.random.chance(80) { self.random.below(5) as u8 } else { self.random.byte() };
+                let length = self.random.below(65) as u8;
+                self.push(Call::Part(block, length));
+            }
+            _ => self.push(Call::Total),
+        }
+    }
+
+    // Ticks
+
+    fn ticks(&mut self) {
+        let fault = self.random.chance(self.profile.fault);
+        let ain = (self.transducer_value(), self.status());
+        let tot = (self.rate(), self.status());
+        let times = if self.random.chance(10) { 1 + self.random.below(6) } else { 1 };
+        for _ in 0..times {
+            self.push(Call::Tick { fault, ain, tot });
+        }
+    }
+
+    fn status(&mut self) -> u8 {
+        if !self.random.chance(self.profile.odd) {
+            return 0x80;
+        }
+        match self.random.below(5) {
+            0 => 0x80 | self.random.byte() & 0x3F,
+            1 => 0x40 | self.random.byte() & 0x3F,
+            2 => self.random.byte() & 0x3F,
+            _ => self.random.byte(),
+        }
+    }
+
+    /// A float next to `value`, most often itself.
+    fn near(&mut self, value: f64) -> u32 {
+        let bits = (value as f32).to_bits();
+        match self.random.below(8) {
+            0 => bits.wrapping_add(1),
+            1 => bits.wrapping_sub(1),
+            2 => bits.wrapping_add(self.random.below(17)).wrapping_sub(8),
+            _ => bits,
+        }
+    }
+
+    fn wild(&mut self) -> Option<u32> {
+        match self.random.chance(self.profile.wild) {
+            true if self.random.chance(15) => Some(self.random.bits()),
+            true => Some(self.random.pick(&FAR_ENDS)),
+            false => None,
+        }
+    }
+
+    /// A value between (and a little past) two ends, often a round one.
+    fn between(&mut self, low: f64, high: f64) -> f64 {
+        let at = self.random.unit() * 1.2 - 0.1;
+        let value = low + at * (high - low);
+        if self.random.chance(50) {
+            (value * 4.0).round() / 4.0
+        } else {
+            value
+        }
+    }
+
+    /// A value of AIN's OUT that matters: at a limit, where an alarm falls, OUT itself, an end of the scale.
+    fn out_that_matters(&mut self) -> f64 {
+        let limit = self.random.pick(&[21, 23, 25, 27]);
+        let at = f64::from(self.in_force(1, limit));
+        let hys = f64::from(self.in_force(1, 19)) * if limit < 25 { -1.0 } else { 1.0 };
+        let (low, high) = self.scale_in_force(1, 12);
+        match self.random.below(8) {
+            0..=2 if at.is_finite() => at,
+            3..=5 if at.is_finite() => at + hys,
+            6 => self.in_force(1, 10).into(),
+            _ => self.random.pick(&[low, high]),
+        }
+    }
+
+    fn transducer_value(&mut self) -> u32 {
+        if let Some(bits) = self.wild() {
+            return bits;
+        }
+        let (pv_low, pv_high) = self.scale_in_force(1, 11);
+        if self.random.chance(50) {
+            return (self.between(pv_low, pv_high) as f32).to_bits();
+        }
+        // Backwards through filter and scaling, so that OUT comes to lie where it matters.
+        let mut wanted = self.out_that_matters();
+        let ftime = f64::from(self.in_force(1, 16));
+        if ftime < 10.0 && self.random.chance(50) {
+            let old = f64::from(self.in_force(1, 10));
+            wanted = old + (wanted - old) * (ftime * 10.0 + 1.0);
+        }
+        let (low, high) = self.scale_in_force(1, 12);
+        let x = (wanted - low) / (high - low) * (pv_high - pv_low) + pv_low;
+        self.near(x)
+    }
+
+    fn rate(&mut self) -> u32 {
+        if let Some(bits) = self.wild() {
+            return bits;
+        }
+        let sign = if self.random.chance(40) { -1.0 } else { 1.0 };
+        let size = match self.random.below(6) {
+            _ if self.profile.great && self.random.chance(70) => {
+                1e7 * self.random.pick(&[0.5, 0.9999, 1.0, 1.0, 2.0, 1e30, 3.4e31])
+            }
+            0 => f64::from(self.random.below(1000)) / 100.0,
+            1 => f64::from(self.random.below(1000)) / 64.0,
+            2 => self.random.unit() / 50.0,
+            3 => self.random.unit() * 1000.0,
+            4 => self.random.unit() * 1e7,
+            _ => self.random.pick(&[0.0, 0.29, 0.015625, 0.01, 1.0]),
+        };
+        self.near(sign * size)
+    }
+
+    // Telegrams
+
+    fn telegram(&mut self) {
+        let remote = self.model.read(3, 5) == Ok((0x02, 0));
+        let mut input = u8::from(remote != self.random.chance(30));
+        let bits = match self.wild() {
+            Some(bits) => bits,
+            None if self.random.chance(5) => self.random.pick(&FAR_ENDS),
+            None => {
+                let (low, high) = self.scale_in_force(3, 11);
+                let value = self.between(low, high);
+                self.near(value)
+            }
+        };
+        let status = match self.random.below(100) {
+            0..=54 => 0x80,
+            55..=69 => 0xC0,
+            // IFS, with all limit bits.
+            70..=79 => self.random.pick(&[0xA0, 0xE0]) | self.random.byte() & 3,
+            // Its neighbours.
+            80..=84 => self.random.pick(&[0x9C, 0xA4, 0xDC, 0xE4, 0x20, 0x60]),
+            _ => self.random.byte(),
+        };
+        let mut bytes = [0x42; 64];
+        bytes[..4].copy_from_slice(&bits.to_be_bytes());
+        bytes[4] = status;
+        let mut length = 5;
+        if self.random.chance(self.profile.hostile) {
+            match self.random.below(3) {
+                0 => input = self.random.pick(&[2, 3, 255]),
+                1 => input = self.random.byte(),
+                _ => {}
+            }
+            match self.random.below(3) {
+                0 => length = self.random.pick(&[0, 1, 4, 6]),
+                1 => length = self.random.below(65) as usize,
+                _ => {}
+            }
+        }
+        self.push(Call::Telegram(input, Bytes::new(&bytes[..length])));
+    }
+
+    // Writes
+
+    fn parameter(&mut self) -> (u8, u8) {
+        let (block, parameters) = PARAMETERS[self.random.weighted(&self.profile.blocks)];
+        (block, self.random.pick(parameters))
+    }
+
+    fn write(&mut self, block: u8, parameter: u8, words: (u32, u32)) {
+        self.push(Call::Write(block, parameter, words.0, words.1));
+    }
+
+    fn allowed_write(&mut self) {
+        if self.model.read(0, 18) == Ok((0, 0)) && self.random.chance(30) {
+            self.write(0, 18, (2457, 0));
+        }
+        let (block, mut parameter) = self.parameter();
+        if block > 0 && (parameter < 8 || self.random.chance(8)) {
+            // Two of three numbers below 8 are R: the mode is wanted.
+            parameter = 5;
+        }
+        let mut words = self.words(block, parameter);
+        if self.random.chance(self.profile.wild / 4) {
+            words.0 = self.random.pick(&FAR_ENDS);
+        }
+        let by_operator = matches!((block, parameter), (1 | 2, 10) | (3, 37));
+        if by_operator && self.random.chance(90) {
+            self.write(block, 5, (0x10, 0));
+            self.write(block, parameter, words);
+            if self.random.chance(70) {
+                self.ticks();
+            }
+            if self.random.chance(80) {
+                self.write(block, 5, (0x08, 0));
+            }
+        } else {
+            self.write(block, parameter, words);
+        }
+    }
+
+    /// Words that are allowed, but for a few from the far ends.
+    fn words(&mut self, block: u8, parameter: u8) -> (u32, u32) {
+        match (block, parameter) {
+            (0, _) => (if self.random.chance(60) { 2457 } else { 0 }, 0),
+            (3, 5) => (self.random.pick(&[0x08, 0x08, 0x08, 0x02, 0x02, 0x10, 0x80]), 0),
+            (_, 5) => (self.random.pick(&[0x08, 0x08, 0x08, 0x08, 0x08, 0x10, 0x80]), 0),
+            (1, 10) => {
+                let value = self.out_that_matters();
+                (self.near(value), self.random.byte().into())
+            }
+            (2, 10) => (self.amount(), self.random.byte().into()),
+            (3, 37) => (self.setting(3, 38), self.random.byte().into()),
+            (1, 11 | 12) | (3, 11 | 38) => self.scale(),
+            (1, 16) => {
+                let some = self.random.unit() as f32 * 3.0;
+                let ftime = self.random.pick(&[0.0, -0.0, 0.1, 0.1, 1.5, 0.5, some, 3600.0, 1e-40]);
+                (ftime.to_bits(), 0)
+            }
+            (1, 17) | (3, 24) | (2, 15) => (self.random.below(3), 0),
+            (2, 13) => (self.random.pick(&[0, 0, 0, 0, 1, 2]), 0),
+            (2, 14) => (self.random.pick(&[0, 0, 0, 1, 2, 3]), 0),
+            (1, 18) => (self.setting(1, 12), 0),
+            (3, 25) => (self.setting(3, 11), 0),
+            (1, 19) => {
+                let some = self.random.unit() as f32;
+                let hysteresis = self.random.pick(&[0.0, -0.0, 0.5, 0.5, 0.25, 0.01, 2.0, some, 3e38]);
+                (hysteresis.to_bits(), 0)
+            }
+            (1, _) => {
+                let off = if parameter < 25 { f32::INFINITY } else { f32::NEG_INFINITY };
+                match self.random.below(6) {
+                    0 => (off.to_bits(), 0),
+                    1 | 2 => {
+                        let out = f64::from(self.in_force(1, 10));
+                        (self.near(out), 0)
+                    }
+                    _ => (self.setting(1, 12), 0),
+                }
+            }
+            (2, _) => (self.amount(), 0),
+            (_, 23) => {
+                let ticks = self.random.below(8);
+                (self.random.pick(&[ticks, ticks, ticks, ticks, ticks, 100, 65_535]), 0)
+            }
+            _ => (self.random.below(2), 0),
+        }
+    }
+
+    /// A value within a scale in force.
+    fn setting(&mut self, block: u8, scale: u8) -> u32 {
+        if let Some(bits) = self.wild() {
+            return bits;
+        }
+        let (low, high) = self.scale_in_force(block, scale);
+        (self.between(low, high) as f32).to_bits()
+    }
+
+    fn scale(&mut self) -> (u32, u32) {
+        if self.random.chance(self.profile.plain) {
+            let (low, high) = self.random.pick(&PLAIN_SCALES);
+            return (low.to_bits(), high.to_bits());
+        }
+        match self.random.below(4) {
+            0 => {
+                let low = self.random.unit() as f32 * 200.0 - 100.0;
+                (low.to_bits(), (low + self.random.unit() as f32 * 100.0).to_bits())
+            }
+            1 if self.random.chance(self.profile.wild) => (self.random.pick(&FAR_ENDS), self.random.pick(&FAR_ENDS)),
+            _ => {
+                let (low, high) = self.random.pick(&OTHER_SCALES);
+                (low.to_bits(), high.to_bits())
+            }
+        }
+    }
+
+    /// A total or preset.
+    fn amount(&mut self) -> u32 {
+        if let Some(bits) = self.wild() {
+            return bits;
+        }
+        let sign = if self.random.chance(50) { -1.0 } else { 1.0 };
+        let size = match self.random.below(5) {
+            _ if self.profile.great && self.random.chance(70) => self.random.pick(&[1e9, 1e9, 999_999_936.0, 9e8]),
+            0 => self.random.unit() * 10.0,
+            1 => f64::from(self.random.below(1000)) / 100.0,
+            2 => 16_777.0 + self.random.unit(),
+            3 => self.random.unit() * 1e9,
+            _ => self.random.pick(&[0.0, 0.29, 0.0019, 1e9]),
+        };
+        self.near(sign * size)
+    }
+
+    fn hostile_write(&mut self) {
+        let (block, parameter) = self.parameter();
+        let words = self.words(block, parameter);
+        match self.random.below(8) {
+            0 => {
+                let block = 4 + self.random.below(252) as u8;
+                self.write(block, parameter, words);
+            }
+            1 => {
+                let parameter = self.random.byte();
+                self.write(block, parameter, words);
+            }
+            2 => {
+                let parameter = self.random.pick(&[1, 6, 7]);
+                self.write(block, parameter, words);
+            }
+            3 => self.write(0, 18, (0, 0)),
+            4 => {
+                let second = words.1 ^ 1 << self.random.below(32);
+                self.write(block, parameter, (words.0, second));
+            }
+            // A parameter of another block.
+            5 => {
+                let block = self.random.below(4) as u8;
+                self.write(block, parameter, words);
+            }
+            _ => {
+                let words = self.words_at_the_edge(block, parameter, words);
+                self.write(block, parameter, words);
+            }
+        }
+    }
+
+    /// Words just within or just outside what is allowed.
+    fn words_at_the_edge(&mut self, block: u8, parameter: u8, allowed: (u32, u32)) -> (u32, u32) {
+        #[rustfmt::skip]
+        const CODES: [u32; 18] = [
+            0, 1, 2, 3, 4, 8, 0x10, 0x20, 0x80, 0x88, 0x102, 0x108, 0x0001_0008, 0x0800_0000, 0x8000_0000, 65_535,
+            65_536, u32::MAX,
+        ];
+        match (block, parameter) {
+            (0, _) => (self.random.pick(&[0, 1, 2456, 2457, 2458, 32_768, 65_535, 2457 + 65_536]), 0),
+            (1, 11 | 12) | (3, 11 | 38) => match self.random.below(4) {
+                0 => (allowed.0, allowed.0),
+                1 => (0, 0x8000_0000),
+                2 => (allowed.0, allowed.0 ^ 1),
+                _ => (self.random.pick(&FAR_ENDS), self.random.pick(&FAR_ENDS)),
+            },
+            (_, 5) | (1, 17) | (2, 13..=15) | (3, 23 | 24 | 36) => (self.random.pick(&CODES), 0),
+            (1 | 2, 10) | (3, 37) => match self.random.below(3) {
+                0 => (allowed.0, self.random.pick(&[0, 255, 256, 0x180, u32::MAX])),
+                1 => (self.random.pick(&FAR_ENDS), allowed.1),
+                _ => (self.random.pick(&[0x4E6E_6B28, 0x4E6E_6B29, 0xCE6E_6B28, 0xCE6E_6B29]), allowed.1),
+            },
+            (1, 16) if self.random.chance(50) => (self.random.pick(&[0x4561_0000, 0x4561_0001, 0x8000_0001]), 0),
+            (2, 16) if self.random.chance(50) => {
+                (self.random.pick(&[0x4E6E_6B28, 0x4E6E_6B29, 0xCE6E_6B28, 0xCE6E_6B29]), 0)
+            }
+            _ => (self.random.pick(&FAR_ENDS), 0),
+        }
+    }
+
+    // Long histories
+
+    /// Silence up to and past FSAFE_TIME, and past 65,536 ticks.
+    fn long_silence(&mut self) {
+        self.opening();
+        self.write(0, 18, (2457, 0));
+        let time = self.random.pick(&[65_535, 65_535, 65_535, 65_534, 40_000]);
+        let mode = self.random.pick(&[0x08, 0x02]);
+        for (parameter, word) in [(5, mode), (23, time), (24, 0), (25, 0x3F80_0000)] {
+            self.write(3, parameter, (word, 0));
+        }
+        for scale in [11, 38] {
+            self.write(3, scale, (0, 0x42C8_0000));
+        }
+        for input in [0, 1] {
+            self.push(Call::Telegram(input, Bytes::new(&[0x42, 0x48, 0, 0, 0x80])));
+        }
+        for _ in 0..65_536 + 20 {
+            let draw = self.random.below(4000);
+            match draw {
+                // Telegrams that count for nothing.
+                0 => self.push(Call::Telegram(0, Bytes::new(&[0x42, 0x48, 0, 0, 0x4C]))),
+                1 => self.push(Call::Telegram(1, Bytes::new(&[0x7F, 0xC0, 0, 0, 0x80]))),
+                _ => {}
+            }
+            self.push(Call::Tick { fault: draw == 2, ain: (draw << 18, 0x80), tot: (0x3C80_0000, 0x80) });
+        }
+        for _ in 0..100 {
+            self.call();
+        }
+    }
+
+    /// ST_REV past its end, by equal and unequal writes.
+    fn many_writes(&mut self) {
+        self.opening();
+        self.write(0, 18, (2457, 0));
+        let (block, parameter) = self.random.pick(&[(1, 17), (2, 15), (3, 24)]);
+        for _ in 0..65_536 + 20 {
+            let code = if self.random.chance(50) { 1 } else { self.random.below(3) };
+            self.write(block, parameter, (code, 0));
+        }
+        for _ in 0..100 {
+            self.call();
+        }
+    }
+}

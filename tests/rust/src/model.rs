@@ -1,0 +1,736 @@
+//! The intake head as a plain state machine, written from the paper alone. Sentences of the paper are quoted.
+//!
+//! A float that is stored is never a NaN (no range lets one in, and outputs are tested), so an `f32` keeps its
+//! bits. A transducer value and a telegram may be NaNs and are taken as bits.
+
+use crate::calls::{Head, Order};
+
+const OUT_OF_SERVICE: u8 = 0x80;
+const MAN: u8 = 0x10;
+const AUTO: u8 = 0x08;
+const RCAS: u8 = 0x02;
+
+/// Fresh, after a warm start, and in O/S.
+const PASSIVE: u8 = 0x1F;
+const SET_BY_NO_ONE: Pair = Pair { value: 0.0, status: 0x4C };
+
+const HI_HI: u8 = 1;
+const HI: u8 = 2;
+const LO: u8 = 4;
+const LO_LO: u8 = 8;
+
+const MOST_INCREMENT: i64 = 1_000_000_000;
+const MOST_TOTAL: i64 = 1_000_000_000_000;
+
+#[derive(Clone, Copy)]
+struct Pair {
+    value: f32,
+    status: u8,
+}
+
+#[derive(Clone, Copy)]
+struct Scale {
+    low: f32,
+    high: f32,
+}
+
+impl Scale {
+    const DEFAULT: Scale = Scale { low: 0.0, high: 100.0 };
+
+    fn fraction(self, x: f32) -> f32 {
+        (x - self.low) / (self.high - self.low)
+    }
+
+    fn value(self, fraction: f32) -> f32 {
+        fraction * (self.high - self.low) + self.low
+    }
+}
+
+/// What blocks 1 to 3 have alike.
+#[derive(Clone)]
+struct Common {
+    st_rev: u16,
+    target: u8,
+    actual: u8,
+}
+
+impl Common {
+    const FRESH: Common = Common { st_rev: 0, target: AUTO, actual: OUT_OF_SERVICE };
+
+    fn set_actual(&mut self, fault: bool) -> u8 {
+        self.actual = if fault { OUT_OF_SERVICE } else { self.target };
+        self.actual
+    }
+}
+
+#[derive(Clone)]
+struct Ain {
+    common: Common,
+    alarms: u8,
+    out: Pair,
+    operator: Pair,
+    pv_scale: Scale,
+    out_scale: Scale,
+    pv_ftime: f32,
+    fsafe_type: u8,
+    fsafe_value: f32,
+    alarm_hys: f32,
+    hi_hi_lim: f32,
+    hi_lim: f32,
+    lo_lim: f32,
+    lo_lo_lim: f32,
+    filter: Option<f32>,
+    last_usable: Option<f32>,
+}
+
+#[derive(Clone)]
+struct Tot {
+    common: Common,
+    given: Pair,
+    operator_status: u8,
+    set_tot: u8,
+    mode_tot: u8,
+    fail_tot: u8,
+    preset_tot: f32,
+    /// Thousandths.
+    total: i64,
+    /// Of the last usable Auto rate, before MODE_TOT.
+    last_increment: Option<i64>,
+}
+
+/// The telegrams of one setpoint input since start.
+#[derive(Clone)]
+struct Input {
+    last_usable: Option<f32>,
+    /// Ticks made when it came.
+    came: u64,
+    /// "the last usable-or-IFS one was IFS"
+    ifs: bool,
+}
+
+#[derive(Clone)]
+struct Ao {
+    common: Common,
+    out: Pair,
+    operator: Pair,
+    pv_scale: Scale,
+    out_scale: Scale,
+    fsafe_time: u32,
+    fsafe_type: u8,
+    fsafe_value: f32,
+    increase_close: u8,
+    inputs: [Input; 2],
+    ticks: u64,
+}
+
+#[derive(Clone)]
+pub struct Model {
+    write_locking: u32,
+    ain: Ain,
+    tot: Tot,
+    ao: Ao,
+}
+
+/// "quality 3 counts as 0x04; quality 0 is itself; else a value not finite is 0x10"
+fn bad_status(value: f32, status: u8) -> Option<u8> {
+    match status >> 6 {
+        3 => Some(0x04),
+        0 => Some(status),
+        _ if !value.is_finite() => Some(0x10),
+        _ => None,
+    }
+}
+
+impl Ain {
+    fn tick(&mut self, fault: bool, bits: u32, status: u8) {
+        match self.common.set_actual(fault) {
+            OUT_OF_SERVICE => {
+                self.out.status = PASSIVE;
+                self.alarms = 0;
+                self.filter = None;
+            }
+            MAN => {
+                self.out = self.operator;
+                self.filter = None;
+                self.move_alarms();
+            }
+            _ => self.auto(f32::from_bits(bits), status),
+        }
+    }
+
+    fn auto(&mut self, x: f32, status: u8) {
+        let scaled = self.out_scale.value(self.pv_scale.fraction(x));
+        let pv = match self.filter {
+            Some(old) if self.pv_ftime != 0.0 => old + (scaled - old) / (self.pv_ftime * 10.0 + 1.0),
+            _ => scaled,
+        };
+        let computed = scaled.is_finite() && pv.is_finite();
+        let bad = bad_status(x, status).or(if computed { None } else { Some(0x04) });
+        let Some(bad) = bad else {
+            self.out = Pair { value: pv, status };
+            self.filter = Some(pv);
+            self.last_usable = Some(pv);
+            self.move_alarms();
+            if status >> 6 == 2 {
+                self.out.status = self.alarm_status(status);
+            }
+            return;
+        };
+        self.out = match self.fsafe_type {
+            0 => Pair { value: self.fsafe_value, status: 0x48 },
+            1 => match self.last_usable {
+                Some(value) => Pair { value, status: 0x44 },
+                None => Pair { value: 0.0, status: 0x4C },
+            },
+            _ => Pair { value: if scaled.is_finite() { scaled } else { self.out.value }, status: bad },
+        };
+        self.move_alarms();
+    }
+
+    /// A rise and a fall exclude each other: ALARM_HYS is at least 0 and rounding is monotone.
+    fn move_alarms(&mut self) {
+        let (out, hys, old) = (self.out.value, self.alarm_hys, self.alarms);
+        let high = |bit: u8, limit: f32| {
+            if out >= limit {
+                bit
+            } else if out < limit - hys {
+                0
+            } else {
+                old & bit
+            }
+        };
+        let low = |bit: u8, limit: f32| {
+            if out <= limit {
+                bit
+            } else if out > limit + hys {
+                0
+            } else {
+                old & bit
+            }
+        };
+        self.alarms =
+            high(HI_HI, self.hi_hi_lim) | high(HI, self.hi_lim) | low(LO, self.lo_lim) | low(LO_LO, self.lo_lo_lim);
+    }
+
+    fn alarm_status(&self, input: u8) -> u8 {
+        match self.alarms {
+            0 => input,
+            a if a & HI_HI != 0 => 0x8E,
+            a if a & LO_LO != 0 => 0x8D,
+            a if a & HI != 0 => 0x8A,
+            _ => 0x89,
+        }
+    }
+}
+
+/// "rate × 100 cut toward zero, then cut to ±10^9, an infinite product giving that end": `as` cuts toward zero and
+/// takes an infinity to the end of the type. (A NaN gives 0, which is not used.)
+fn increment(rate: f32) -> i64 {
+    ((rate * 100.0) as i64).clamp(-MOST_INCREMENT, MOST_INCREMENT)
+}
+
+/// "× 1000 cut toward zero"
+fn thousandths(value: f32) -> i64 {
+    (value * 1000.0) as i64
+}
+
+/// "the total with all but its 24 highest bits cleared (its magnitude's), as a float, / 1000"
+fn given_value(total: i64) -> f32 {
+    let magnitude = total.unsigned_abs();
+    let cleared = (64 - magnitude.leading_zeros()).saturating_sub(24);
+    let cut = (magnitude >> cleared << cleared) as i64;
+    (if total < 0 { -cut } else { cut }) as f32 / 1000.0
+}
+
+impl Tot {
+    fn tick(&mut self, fault: bool, bits: u32, status: u8) {
+        self.given.status = match self.common.set_actual(fault) {
+            OUT_OF_SERVICE => {
+                self.given.status = PASSIVE;
+                return;
+            }
+            MAN => self.operator_status,
+            _ => self.auto(f32::from_bits(bits), status),
+        };
+        self.given.value = given_value(self.total);
+    }
+
+    /// Moves the total and gives the status.
+    fn auto(&mut self, rate: f32, status: u8) -> u8 {
+        let bad = bad_status(rate, status);
+        let increment = increment(rate);
+        if bad.is_none() {
+            self.last_increment = Some(increment);
+        }
+        let run_status = bad.unwrap_or(status);
+        match self.set_tot {
+            1 => self.total = 0,
+            2 => self.total = thousandths(self.preset_tot),
+            _ if bad.is_none() => self.add(increment),
+            _ => match self.fail_tot {
+                0 if rate.is_finite() => self.add(increment),
+                0 => {}
+                1 => return 0x40,
+                _ => match self.last_increment {
+                    Some(last) => {
+                        self.add(last);
+                        return 0x44;
+                    }
+                    None => return 0x4C,
+                },
+            },
+        }
+        run_status
+    }
+
+    fn add(&mut self, increment: i64) {
+        let wanted = match self.mode_tot {
+            0 => increment,
+            1 => increment.max(0),
+            2 => increment.min(0),
+            _ => 0,
+        };
+        self.total = (self.total + wanted).clamp(-MOST_TOTAL, MOST_TOTAL);
+    }
+}
+
+impl Ao {
+    fn tick(&mut self, fault: bool) -> Order {
+        let now = self.ticks;
+        self.ticks += 1;
+        match self.common.set_actual(fault) {
+            OUT_OF_SERVICE => {
+                self.out.status = PASSIVE;
+                Order::Rest
+            }
+            MAN => {
+                self.out = self.operator;
+                Order::Position(self.out.value.to_bits())
+            }
+            actual => self.follow(usize::from(actual == RCAS), now),
+        }
+    }
+
+    fn follow(&mut self, index: usize, now: u64) -> Order {
+        let input = &self.inputs[index];
+        let silent = now - input.came > u64::from(self.fsafe_time);
+        let (w, status) = match input.last_usable {
+            Some(value) if !silent && !input.ifs => (value, 0x80),
+            last_usable => match (self.fsafe_type, last_usable) {
+                (0, _) => (self.fsafe_value, 0x48),
+                (1, Some(value)) => (value, 0x44),
+                (1, None) => {
+                    self.out.status = 0x4C;
+                    return Order::Position(self.out.value.to_bits());
+                }
+                _ => {
+                    self.out.status = 0x00;
+                    return Order::Safe;
+                }
+            },
+        };
+        let mut f = self.pv_scale.fraction(w);
+        if self.increase_close == 1 {
+            f = 1.0 - f;
+        }
+        let value = self.out_scale.value(f);
+        if value.is_finite() {
+            self.out = Pair { value, status };
+        } else {
+            self.out.status = 0x04;
+        }
+        Order::Position(self.out.value.to_bits())
+    }
+
+    fn telegram(&mut self, index: usize, value: f32, status: u8) {
+        if status >> 6 < 2 {
+            return;
+        }
+        if status >> 2 & 15 == 8 {
+            self.inputs[index].ifs = true;
+        } else if value.is_finite() {
+            self.inputs[index] = Input { last_usable: Some(value), came: self.ticks, ifs: false };
+        }
+    }
+}
+
+const NO_TELEGRAM: Input = Input { last_usable: None, came: 0, ifs: false };
+
+/// The two words of a write, given out as what they stand for, or refused as 5.
+#[derive(Clone, Copy)]
+struct Words(u32, u32);
+
+impl Words {
+    /// "A one-word parameter needs second word 0"
+    fn one(self) -> Result<u32, u8> {
+        (self.1 == 0).then_some(self.0).ok_or(5)
+    }
+
+    fn up_to(self, most: u32) -> Result<u32, u8> {
+        self.one().ok().filter(|&word| word <= most).ok_or(5)
+    }
+
+    fn code(self, most: u8) -> Result<u8, u8> {
+        self.up_to(most.into()).map(|word| word as u8)
+    }
+
+    fn float(self, allowed: impl Fn(f32) -> bool) -> Result<f32, u8> {
+        float(self.one()?, allowed)
+    }
+
+    fn scale(self) -> Result<Scale, u8> {
+        let (low, high) = (float(self.0, f32::is_finite)?, float(self.1, f32::is_finite)?);
+        (low != high).then_some(Scale { low, high }).ok_or(5)
+    }
+
+    fn pair(self, allowed: impl Fn(f32) -> bool) -> Result<Pair, u8> {
+        let value = float(self.0, allowed)?;
+        Ok(Pair { value, status: u8::try_from(self.1).map_err(|_| 5)? })
+    }
+
+    fn mode(self, with_rcas: bool) -> Result<u8, u8> {
+        match self.one()? {
+            word @ (0x80 | 0x10 | 0x08) => Ok(word as u8),
+            0x02 if with_rcas => Ok(RCAS),
+            _ => Err(5),
+        }
+    }
+}
+
+/// A NaN has to fail `allowed`: every one below is put so that it does.
+fn float(bits: u32, allowed: impl Fn(f32) -> bool) -> Result<f32, u8> {
+    Some(f32::from_bits(bits)).filter(|&value| allowed(value)).ok_or(5)
+}
+
+fn within_total(value: f32) -> bool {
+    (-1e9..=1e9).contains(&value)
+}
+
+#[derive(Clone, Copy, PartialEq)]
+enum Class {
+    Static,
+    Kept,
+    Dynamic,
+    ReadOnly,
+}
+
+/// Grounds 1 and 2.
+fn class(block: u8, parameter: u8) -> Result<Class, u8> {
+    match (block, parameter) {
+        (1..=3, 1 | 6) | (1, 7) => Ok(Class::ReadOnly),
+        (1..=3, 5) => Ok(Class::Static),
+        (1, 11 | 12 | 16..=19 | 21 | 23 | 25 | 27) => Ok(Class::Static),
+        (2, 15 | 16) => Ok(Class::Static),
+        (3, 11 | 23..=25 | 36 | 38) => Ok(Class::Static),
+        (0, 18) | (2, 10 | 13 | 14) => Ok(Class::Kept),
+        (1, 10) | (3, 37) => Ok(Class::Dynamic),
+        (0..=3, _) => Err(2),
+        _ => Err(1),
+    }
+}
+
+/// Ground 6.
+fn only_in_man(target: u8) -> Result<(), u8> {
+    (target == MAN).then_some(()).ok_or(6)
+}
+
+impl Model {
+    pub fn factory() -> Model {
+        let fresh = Pair { value: 0.0, status: PASSIVE };
+        Model {
+            write_locking: 2457,
+            ain: Ain {
+                common: Common::FRESH,
+                alarms: 0,
+                out: fresh,
+                operator: SET_BY_NO_ONE,
+                pv_scale: Scale::DEFAULT,
+                out_scale: Scale::DEFAULT,
+                pv_ftime: 0.0,
+                fsafe_type: 1,
+                fsafe_value: 0.0,
+                alarm_hys: 0.5,
+                hi_hi_lim: f32::INFINITY,
+                hi_lim: f32::INFINITY,
+                lo_lim: f32::NEG_INFINITY,
+                lo_lo_lim: f32::NEG_INFINITY,
+                filter: None,
+                last_usable: None,
+            },
+            tot: Tot {
+                common: Common::FRESH,
+                given: fresh,
+                operator_status: SET_BY_NO_ONE.status,
+                set_tot: 0,
+                mode_tot: 0,
+                fail_tot: 0,
+                preset_tot: 0.0,
+                total: 0,
+                last_increment: None,
+            },
+            ao: Ao {
+                common: Common::FRESH,
+                out: fresh,
+                operator: SET_BY_NO_ONE,
+                pv_scale: Scale::DEFAULT,
+                out_scale: Scale::DEFAULT,
+                fsafe_time: 0,
+                fsafe_type: 1,
+                fsafe_value: 0.0,
+                increase_close: 0,
+                inputs: [NO_TELEGRAM; 2],
+                ticks: 0,
+            },
+        }
+    }
+
+    pub fn tick(&mut self, fault: bool, ain_bits: u32, ain_status: u8, tot_bits: u32, tot_status: u8) -> Order {
+        self.ain.tick(fault, ain_bits, ain_status);
+        self.tot.tick(fault, tot_bits, tot_status);
+        self.ao.tick(fault)
+    }
+
+    pub fn telegram(&mut self, input: u8, bytes: &[u8]) -> Result<(), u8> {
+        if input > 1 {
+            return Err(8);
+        }
+        let &[a, b, c, d, status] = bytes else { return Err(7) };
+        self.ao.telegram(input.into(), f32::from_be_bytes([a, b, c, d]), status);
+        Ok(())
+    }
+
+    /// "forgets alarms, filter, last usable values, operator's pairs (TOT's operator status too) and telegrams"
+    pub fn warm_start(&mut self) {
+        let Model { ain, tot, ao, .. } = self;
+        for common in [&mut ain.common, &mut tot.common, &mut ao.common] {
+            common.actual = OUT_OF_SERVICE;
+        }
+        for out in [&mut ain.out, &mut tot.given, &mut ao.out] {
+            out.status = PASSIVE;
+        }
+        ain.operator = SET_BY_NO_ONE;
+        tot.operator_status = SET_BY_NO_ONE.status;
+        ao.operator = SET_BY_NO_ONE;
+        ain.alarms = 0;
+        ain.filter = None;
+        ain.last_usable = None;
+        tot.last_increment = None;
+        ao.inputs = [NO_TELEGRAM; 2];
+    }
+
+    pub fn write(&mut self, block: u8, parameter: u8, w1: u32, w2: u32) -> Result<(), u8> {
+        let class = class(block, parameter)?;
+        if class == Class::ReadOnly {
+            return Err(3);
+        }
+        if self.write_locking == 0 && (block, parameter) != (0, 18) {
+            return Err(4);
+        }
+        let words = Words(w1, w2);
+        let common = match block {
+            0 => {
+                self.write_locking = match words.one()? {
+                    word @ (0 | 2457) => word,
+                    _ => return Err(5),
+                };
+                return Ok(());
+            }
+            1 => self.ain.write(parameter, words)?,
+            2 => self.tot.write(parameter, words)?,
+            _ => self.ao.write(parameter, words)?,
+        };
+        if class == Class::Static {
+            common.st_rev = common.st_rev.wrapping_add(1);
+        }
+        Ok(())
+    }
+
+    pub fn read(&self, block: u8, parameter: u8) -> Result<(u32, u32), u8> {
+        class(block, parameter)?;
+        let common = match block {
+            0 => return Ok((self.write_locking, 0)),
+            1 => &self.ain.common,
+            2 => &self.tot.common,
+            _ => &self.ao.common,
+        };
+        Ok(match (block, parameter) {
+            (_, 1) => (common.st_rev.into(), 0),
+            (_, 5) => (common.target.into(), 0),
+            (_, 6) => (common.actual.into(), 0),
+            (1, _) => self.ain.read(parameter),
+            (2, _) => self.tot.read(parameter),
+            _ => self.ao.read(parameter),
+        })
+    }
+
+    pub fn image(&self, buf: &mut [u8]) -> Result<(), u8> {
+        if buf.len() < 15 {
+            return Err(7);
+        }
+        for (part, pair) in buf.chunks_exact_mut(5).zip([self.ain.out, self.tot.given, self.ao.out]) {
+            part[..4].copy_from_slice(&pair.value.to_be_bytes());
+            part[4] = pair.status;
+        }
+        Ok(())
+    }
+
+    pub fn part(block: u8, buf: &[u8]) -> &[u8] {
+        match usize::from(block) {
+            block @ 1..=3 if buf.len() >= 15 => &buf[5 * block - 5..5 * block],
+            _ => &buf[..0],
+        }
+    }
+
+    pub fn total(&self) -> i64 {
+        self.tot.total
+    }
+}
+
+impl Ain {
+    /// Grounds 5 and 6, then the field.
+    fn write(&mut self, parameter: u8, words: Words) -> Result<&mut Common, u8> {
+        let finite_or = |end: f32| move |v: f32| v.is_finite() || v == end;
+        match parameter {
+            5 => self.common.target = words.mode(false)?,
+            10 => {
+                let pair = words.pair(f32::is_finite)?;
+                only_in_man(self.common.target)?;
+                self.operator = pair;
+            }
+            11 => self.pv_scale = words.scale()?,
+            12 => self.out_scale = words.scale()?,
+            16 => self.pv_ftime = words.float(|v| (0.0..=3600.0).contains(&v))?,
+            17 => self.fsafe_type = words.code(2)?,
+            18 => self.fsafe_value = words.float(f32::is_finite)?,
+            19 => self.alarm_hys = words.float(|v| v.is_finite() && v >= 0.0)?,
+            21 => self.hi_hi_lim = words.float(finite_or(f32::INFINITY))?,
+            23 => self.hi_lim = words.float(finite_or(f32::INFINITY))?,
+            25 => self.lo_lim = words.float(finite_or(f32::NEG_INFINITY))?,
+            27 => self.lo_lo_lim = words.float(finite_or(f32::NEG_INFINITY))?,
+            _ => unreachable!("class has named the parameters"),
+        }
+        Ok(&mut self.common)
+    }
+
+    fn read(&self, parameter: u8) -> (u32, u32) {
+        let one = |value: f32| (value.to_bits(), 0);
+        match parameter {
+            7 => (self.alarms.into(), 0),
+            10 => (self.out.value.to_bits(), self.out.status.into()),
+            11 => (self.pv_scale.low.to_bits(), self.pv_scale.high.to_bits()),
+            12 => (self.out_scale.low.to_bits(), self.out_scale.high.to_bits()),
+            16 => one(self.pv_ftime),
+            17 => (self.fsafe_type.into(), 0),
+            18 => one(self.fsafe_value),
+            19 => one(self.alarm_hys),
+            21 => one(self.hi_hi_lim),
+            23 => one(self.hi_lim),
+            25 => one(self.lo_lim),
+            27 => one(self.lo_lo_lim),
+            _ => unreachable!("class has named the parameters"),
+        }
+    }
+}
+
+impl Tot {
+    fn write(&mut self, parameter: u8, words: Words) -> Result<&mut Common, u8> {
+        match parameter {
+            5 => self.common.target = words.mode(false)?,
+            10 => {
+                let pair = words.pair(within_total)?;
+                only_in_man(self.common.target)?;
+                self.total = thousandths(pair.value);
+                self.operator_status = pair.status;
+            }
+            13 => self.set_tot = words.code(2)?,
+            14 => self.mode_tot = words.code(3)?,
+            15 => self.fail_tot = words.code(2)?,
+            16 => self.preset_tot = words.float(within_total)?,
+            _ => unreachable!("class has named the parameters"),
+        }
+        Ok(&mut self.common)
+    }
+
+    fn read(&self, parameter: u8) -> (u32, u32) {
+        match parameter {
+            10 => (self.given.value.to_bits(), self.given.status.into()),
+            13 => (self.set_tot.into(), 0),
+            14 => (self.mode_tot.into(), 0),
+            15 => (self.fail_tot.into(), 0),
+            16 => (self.preset_tot.to_bits(), 0),
+            _ => unreachable!("class has named the parameters"),
+        }
+    }
+}
+
+impl Ao {
+    fn write(&mut self, parameter: u8, words: Words) -> Result<&mut Common, u8> {
+        match parameter {
+            5 => self.common.target = words.mode(true)?,
+            11 => self.pv_scale = words.scale()?,
+            23 => self.fsafe_time = words.up_to(65_535)?,
+            24 => self.fsafe_type = words.code(2)?,
+            25 => self.fsafe_value = words.float(f32::is_finite)?,
+            36 => self.increase_close = words.code(1)?,
+            37 => {
+                let pair = words.pair(f32::is_finite)?;
+                only_in_man(self.common.target)?;
+                self.operator = pair;
+            }
+            38 => self.out_scale = words.scale()?,
+            _ => unreachable!("class has named the parameters"),
+        }
+        Ok(&mut self.common)
+    }
+
+    fn read(&self, parameter: u8) -> (u32, u32) {
+        match parameter {
+            11 => (self.pv_scale.low.to_bits(), self.pv_scale.high.to_bits()),
+            23 => (self.fsafe_time, 0),
+            24 => (self.fsafe_type.into(), 0),
+            25 => (self.fsafe_value.to_bits(), 0),
+            36 => (self.increase_close.into(), 0),
+            37 => (self.out.value.to_bits(), self.out.status.into()),
+            38 => (self.out_scale.low.to_bits(), self.out_scale.high.to_bits()),
+            _ => unreachable!("class has named the parameters"),
+        }
+    }
+}
+
+impl Head for Model {
+    fn factory(&mut self) {
+        *self = Model::factory();
+    }
+
+    fn tick(&mut self, fault: bool, ain_bits: u32, ain_status: u8, tot_bits: u32, tot_status: u8) -> Order {
+        self.tick(fault, ain_bits, ain_status, tot_bits, tot_status)
+    }
+
+    fn telegram(&mut self, input: u8, bytes: &[u8]) -> Result<(), u8> {
+        self.telegram(input, bytes)
+    }
+
+    fn write(&mut self, block: u8, parameter: u8, w1: u32, w2: u32) -> Result<(), u8> {
+        self.write(block, parameter, w1, w2)
+    }
+
+    fn read(&self, block: u8, parameter: u8) -> Result<(u32, u32), u8> {
+        self.read(block, parameter)
+    }
+
+    fn warm_start(&mut self) {
+        self.warm_start();
+    }
+
+    fn image(&self, buf: &mut [u8]) -> Result<(), u8> {
+        self.image(buf)
+    }
+
+    fn part<'a>(&self, block: u8, buf: &'a [u8]) -> &'a [u8] {
+        Model::part(block, buf)
+    }
+
+    fn total(&self) -> i64 {
+        self.total()
+    }
+}

@@ -1,0 +1,141 @@
+//! The comparison itself: it finds nothing between a head and itself, and its histories reach what they are made for.
+
+use std::collections::{BTreeMap, BTreeSet};
+
+use comparison::calls::{parse, Answer, Call, Head, Line, Order};
+use comparison::compare::{compare, run, shrink};
+use comparison::histories::{histories, history, HISTORIES};
+use comparison::model::Model;
+
+fn model() -> Box<dyn Head> {
+    Box::new(Model::factory())
+}
+
+#[test]
+fn a_head_equals_itself() {
+    let calls = compare(&model, &model, histories(3, 2000)).unwrap_or_else(|difference| panic!("{difference}"));
+    assert!(calls >= 200_000, "{calls}");
+}
+
+#[test]
+fn the_same_seed_gives_the_same_history() {
+    assert_eq!(history(5, 3), history(5, 3));
+    assert_ne!(history(5, 3), history(6, 3));
+    assert_ne!(history(5, 3), history(5, 13));
+}
+
+#[test]
+fn calls_and_their_lines() {
+    for call in histories(2, 100).flatten() {
+        assert_eq!(parse(call.to_string().as_bytes()), Line::Call(call), "{call}");
+    }
+}
+
+/// Every refusal, mode, status rule and order is met often, and no kind of call is nearly always refused.
+#[test]
+fn histories_reach_all_cases() {
+    let mut seen: BTreeMap<String, usize> = BTreeMap::new();
+    let mut accepted: BTreeSet<(u8, u8)> = BTreeSet::new();
+    let (mut writes, mut refused_writes) = (0, 0);
+    for history in histories(1, HISTORIES) {
+        let mut head = Model::factory();
+        for call in history {
+            let answer = call.on(&mut head);
+            let mut see = |what: String| *seen.entry(what).or_default() += 1;
+            match (call, answer) {
+                (_, Answer::Refused(number)) => see(format!("refused {number}")),
+                (_, Answer::Order(Order::Position(_))) => see("position".into()),
+                (_, Answer::Order(order)) => see(format!("{order:?}")),
+                (Call::Write(block, parameter, ..), Answer::Ok) => _ = accepted.insert((block, parameter)),
+                _ => {}
+            }
+            match call {
+                Call::Write(..) => {
+                    writes += 1;
+                    refused_writes += usize::from(answer != Answer::Ok);
+                }
+                Call::Tick { ain, .. } => {
+                    for (block, parameter) in [(1, 10), (2, 10), (3, 37)] {
+                        let mode = head.read(block, 6).unwrap().0;
+                        see(format!("block {block} in {mode:02X}"));
+                        if mode & 0x0A != 0 {
+                            see(format!("block {block} status {:02X}", head.read(block, parameter).unwrap().1));
+                        }
+                    }
+                    see(format!("alarms {}", head.read(1, 7).unwrap().0));
+                    see(format!("input status {}", ain.1));
+                    see(format!("end of the total {}", head.total() / 1_000_000_000_000));
+                }
+                _ => {}
+            }
+        }
+    }
+    let mut wanted: Vec<String> = (1..=8).map(|number| format!("refused {number}")).collect();
+    wanted.extend(["position", "Safe", "Rest", "end of the total 1", "end of the total -1"].map(String::from));
+    wanted.extend((0..16).map(|alarms| format!("alarms {alarms}")));
+    wanted.extend((0..256).map(|status| format!("input status {status}")));
+    let modes =
+        [(1, 0x80), (1, 0x10), (1, 0x08), (2, 0x80), (2, 0x10), (2, 0x08), (3, 0x80), (3, 0x10), (3, 0x08), (3, 0x02)];
+    wanted.extend(modes.map(|(block, mode)| format!("block {block} in {mode:02X}")));
+    let ain = [0x8E, 0x8D, 0x8A, 0x89, 0x48, 0x44, 0x4C, 0x10, 0x04];
+    wanted.extend(ain.map(|status| format!("block 1 status {status:02X}")));
+    wanted.extend([0x40, 0x44, 0x4C, 0x10, 0x04, 0x80].map(|status| format!("block 2 status {status:02X}")));
+    wanted.extend([0x80, 0x48, 0x44, 0x4C, 0x00, 0x04].map(|status| format!("block 3 status {status:02X}")));
+    for what in wanted {
+        let times = seen.get(&what).copied().unwrap_or(0);
+        assert!(times >= 100, "{what}: {times} times");
+    }
+    assert_eq!(accepted.len(), 1 + 12 + 6 + 8, "every parameter but those that are R: {accepted:?}");
+    assert!(refused_writes * 2 < writes, "{refused_writes} of {writes} writes refused");
+}
+
+/// A head that goes wrong at the third tick with HI standing; the report is the shortest script that shows it.
+#[test]
+fn a_difference_is_shrunk() {
+    struct Wrong(Model, u32);
+    impl Head for Wrong {
+        fn factory(&mut self) {
+            *self = Wrong(Model::factory(), 0);
+        }
+        fn tick(&mut self, fault: bool, ain_bits: u32, ain_status: u8, tot_bits: u32, tot_status: u8) -> Order {
+            let order = self.0.tick(fault, ain_bits, ain_status, tot_bits, tot_status);
+            self.1 += u32::from(self.0.read(1, 7) == Ok((2, 0)));
+            if self.1 == 3 {
+                Order::Safe
+            } else {
+                order
+            }
+        }
+        fn telegram(&mut self, input: u8, bytes: &[u8]) -> Result<(), u8> {
+            self.0.telegram(input, bytes)
+        }
+        fn write(&mut self, block: u8, parameter: u8, w1: u32, w2: u32) -> Result<(), u8> {
+            self.0.write(block, parameter, w1, w2)
+        }
+        fn read(&self, block: u8, parameter: u8) -> Result<(u32, u32), u8> {
+            self.0.read(block, parameter)
+        }
+        fn warm_start(&mut self) {
+            self.0.warm_start();
+        }
+        fn image(&self, buf: &mut [u8]) -> Result<(), u8> {
+            self.0.image(buf)
+        }
+        fn part<'a>(&self, block: u8, buf: &'a [u8]) -> &'a [u8] {
+            Model::part(block, buf)
+        }
+        fn total(&self) -> i64 {
+            self.0.total()
+        }
+    }
+    let wrong = || -> Box<dyn Head> { Box::new(Wrong(Model::factory(), 0)) };
+    let found = compare(&model, &wrong, histories(1, 20)).expect_err("a difference");
+    assert_eq!(found.history.len(), 4, "{found}");
+    let tick = "tick 0 0x00000000 0x80 0x00000000 0x80\n";
+    let script =
+        format!("write 1 23 0x00000000 0x00000000\n{tick}{tick}{tick}# left:  position 0x00000000\n# right: safe\n");
+    assert_eq!(found.to_string(), script);
+    // What is found may be played again and shrunk again, with no change.
+    let again = run(&model, &wrong, &found.history).expect("the same");
+    assert_eq!(shrink(&model, &wrong, again).history, found.history);
+}

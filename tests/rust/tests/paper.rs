@@ -1,0 +1,677 @@
+//! Vectors worked by hand from the paper: its points B to I, and a case for each reading that tells two readings apart.
+//!
+//! They are written in the call script with a few shorter forms: `50f`, `inf` and `nan` are float bits; `ain X S` and
+//! `tot X S` are ticks with that pair (the other being 0, 0x80), `off` is a tick with the fault flag, `sp X S` and
+//! `rcas X S` are telegrams. After `=>` stands the answer; the words of a read stand there alone, a second word 0 may
+//! be left out. Without `=>` the call must not be refused. `7 * call` makes a call seven times.
+
+use comparison::archive::Archive;
+use comparison::calls::{parse, replay, Answer, Head, Line};
+use comparison::model::Model;
+
+fn bits(word: &str) -> Option<u32> {
+    match word {
+        "nan" => Some(0x7FC0_0000),
+        "inf" => Some(f32::INFINITY.to_bits()),
+        "-inf" => Some(f32::NEG_INFINITY.to_bits()),
+        _ => word.strip_suffix('f').and_then(|number| number.parse::<f32>().ok()).map(f32::to_bits),
+    }
+}
+
+/// Floats as hexadecimal words.
+fn with_bits(text: &str) -> Vec<String> {
+    text.split_whitespace().map(|word| bits(word).map_or(word.into(), |bits| format!("{bits:#010X}"))).collect()
+}
+
+fn number(word: &str) -> u32 {
+    match word.strip_prefix("0x") {
+        Some(digits) => u32::from_str_radix(digits, 16).expect(word),
+        None => word.parse().expect(word),
+    }
+}
+
+fn line(call: &str) -> String {
+    let words = with_bits(call);
+    let telegram = |input: u8| {
+        let bytes = number(&words[1]).to_be_bytes().map(|byte| byte.to_string());
+        format!("telegram {input} {} {}", bytes.join(" "), words[2])
+    };
+    match &*words[0] {
+        "ain" => format!("tick 0 {} {} 0 0x80", words[1], words[2]),
+        "tot" => format!("tick 0 0 0x80 {} {}", words[1], words[2]),
+        "off" => "tick 1 0 0x80 0 0x80".into(),
+        "sp" => telegram(0),
+        "rcas" => telegram(1),
+        _ => words.join(" "),
+    }
+}
+
+fn expected(text: &str) -> String {
+    let words = with_bits(text);
+    if words[0].starts_with(|c: char| c.is_ascii_digit()) {
+        let second = words.get(1).map_or(0, |word| number(word));
+        return format!("words {:#010X} {second:#010X}", number(&words[0]));
+    }
+    words.join(" ")
+}
+
+/// Plays calls on a fresh model, and on a fresh device of the archive's.
+fn play(script: &str) {
+    play_on(&mut Model::factory(), script);
+    play_on(&mut Archive::factory(), script);
+}
+
+fn play_on(head: &mut dyn Head, script: &str) {
+    for text in script.split(['\n', ';']).map(|text| text.split("//").next().unwrap().trim()) {
+        if text.is_empty() {
+            continue;
+        }
+        let (call, wanted) = match text.split_once("=>") {
+            Some((call, wanted)) => (call, Some(wanted)),
+            None => (text, None),
+        };
+        let (times, call) = match call.split_once(" * ") {
+            Some((times, call)) => (number(times.trim()), call),
+            None => (1, call),
+        };
+        let Line::Call(call) = parse(line(call).as_bytes()) else { panic!("not a call: {text}") };
+        for _ in 0..times {
+            let answer = call.on(head);
+            match wanted {
+                Some(wanted) => assert_eq!(answer.to_string(), expected(wanted), "{text} in:\n{script}"),
+                None => assert!(!matches!(answer, Answer::Refused(_)), "{text}: {answer} in:\n{script}"),
+            }
+        }
+    }
+}
+
+// Points on the curve
+
+#[test]
+fn point_b() {
+    play("write 1 11 4f 20f; ain 12f 0x80; image 15 => bytes 42 48 00 00 80 00 00 00 00 80 00 00 00 00 4C");
+}
+
+#[test]
+fn point_c() {
+    play(
+        "write 1 11 0f 64f; write 1 12 0f 64f; write 1 16 1.5f 0; ain 0f 0x80
+         ain 32f 0x80; read 1 10 => 2f 0x80",
+    );
+}
+
+#[test]
+fn point_d() {
+    play(
+        "write 1 11 0f 1f; write 1 12 0f 1f; write 1 23 80f 0
+         ain 80f 0x80; read 1 7 => 2; ain 79.5f 0x80; read 1 7 => 2; read 1 10 => 79.5f 0x8A
+         ain 79.25f 0x80; read 1 7 => 0; read 1 10 => 79.25f 0x80",
+    );
+}
+
+#[test]
+fn points_e_and_f() {
+    play("tot 0.015625f 0x80; total => total 1; 2 * tot -0.015625f 0x80; total => total -1");
+}
+
+/// 16,777,217 = 16,000,000 + 777,212 + 5.
+#[test]
+fn point_g() {
+    play(
+        "write 2 5 0x10 0; write 2 10 16000f 0x80; write 2 5 8 0; total => total 16000000
+         tot 7772.125f 0x80; tot 0.0546875f 0x80; total => total 16777217
+         read 2 10 => 16777.216f 0x80",
+    );
+}
+
+#[test]
+fn point_h() {
+    play(
+        "write 3 23 2 0; sp 50f 0x80; 3 * ain 0f 0x80 => position 50f; read 3 37 => 50f 0x80
+         ain 0f 0x80 => position 50f; read 3 37 => 50f 0x44",
+    );
+}
+
+#[test]
+fn point_i() {
+    play("65535 * write 1 17 1 0; read 1 1 => 65535; write 1 17 1 0; read 1 1 => 0; write 1 17 1 0; read 1 1 => 1");
+}
+
+// Head and arithmetic
+
+#[test]
+fn no_update_event() {
+    play("write 1 17 2 0; ain 50f 0x80; read 1 10 => 50f 0x80");
+}
+
+#[test]
+fn rounding() {
+    play(
+        "write 1 12 -50f 50f
+         ain 0x410E6666 0x80; read 1 10 => 0xC2246666 0x80 // fused C2246667
+         ain 0x4164CCCD 0x80; read 1 10 => 0xC20ECCCC 0x80 // multiplying first C20ECCCD",
+    );
+    // 80 − 0.01 = 429FFAE1, met exactly by the operator.
+    play(
+        "write 1 23 80f 0; write 1 19 0.01f 0; write 1 5 0x10 0; write 1 10 80f 0; ain 0f 0x80; read 1 7 => 2
+         write 1 10 0x429FFAE1 0; ain 0f 0x80; read 1 7 => 2
+         write 1 10 0x429FFAE0 0; ain 0f 0x80; read 1 7 => 0",
+    );
+    // A tie goes to the even one: 2^24 + 1.
+    play("write 1 11 0f 1f; write 1 12 1f 2f; ain 16777216f 0x80; read 1 10 => 16777216f 0x80");
+    // A span of one subnormal is kept.
+    play("write 1 11 0 1; write 1 12 0f 1f; ain 0x00000003 0x80; read 1 10 => 3f 0x80");
+}
+
+#[test]
+fn equal_scales_are_no_identity() {
+    play("ain 30f 0x80; read 1 10 => 0x41F00001 0x80; sp 30f 0x80; ain 0f 0x80 => position 0x41F00001");
+}
+
+#[test]
+fn sign_of_zero() {
+    play("write 1 12 -0f 100f; ain -0f 0x80; read 1 10 => 0x80000000 0x80");
+    play("write 3 38 -0f -100f; sp 0f 0x80; ain 0f 0x80 => position 0x80000000");
+    play("ain -0f 0x80; read 1 10 => 0 0x80; tot -0f 0x80; read 2 10 => 0 0x80");
+    play("write 2 5 0x10 0; write 2 10 -0f 0x80; ain 0f 0x80; read 2 10 => 0 0x80");
+}
+
+#[test]
+fn order_of_the_second_half() {
+    play("write 1 12 50f 100f; ain 50f 0x80; read 1 10 => 75f 0x80");
+}
+
+// Calls and parameters
+
+#[test]
+fn only_the_target_at_the_tick_counts() {
+    play("write 1 5 0x80 0; write 1 12 0f 10f; write 1 5 8 0; ain 50f 0x80; read 1 10 => 5f 0x80; read 1 6 => 8");
+}
+
+#[test]
+fn telegrams_are_no_writes() {
+    play(
+        "write 0 18 0 0; sp 50f 0x80 => ok; sp 50f 0x4C => ok; sp nan 0x80 => ok; rcas 50f 0 => ok
+         ain 0f 0x80 => position 50f",
+    );
+}
+
+#[test]
+fn lacking_parameters() {
+    for (block, parameters) in [
+        (0, &[18][..]),
+        (1, &[1, 5, 6, 7, 10, 11, 12, 16, 17, 18, 19, 21, 23, 25, 27]),
+        (2, &[1, 5, 6, 10, 13, 14, 15, 16]),
+        (3, &[1, 5, 6, 11, 23, 24, 25, 36, 37, 38]),
+    ] {
+        for parameter in 0..=255 {
+            let head = &mut Model::factory();
+            let known = parameters.contains(&parameter);
+            assert_eq!(head.read(block, parameter).err(), if known { None } else { Some(2) }, "{block} {parameter}");
+            assert_eq!(head.write(block, parameter, 0xFFFF_FFFF, 0xFFFF_FFFF) == Err(2), !known, "{block} {parameter}");
+        }
+    }
+    for block in 4..=255 {
+        assert_eq!(Model::factory().read(block, 1), Err(1));
+        assert_eq!(Model::factory().write(block, 1, 0, 0), Err(1));
+    }
+}
+
+#[test]
+fn defaults() {
+    play(
+        "read 0 18 => 2457
+         read 1 1 => 0; read 1 5 => 8; read 1 6 => 0x80; read 1 7 => 0; read 1 10 => 0f 0x1F
+         read 1 11 => 0f 100f; read 1 12 => 0f 0x42C80000; read 1 16 => 0f; read 1 17 => 1; read 1 18 => 0f
+         read 1 19 => 0.5f; read 1 21 => 0x7F800000; read 1 23 => 0x7F800000; read 1 25 => 0xFF800000
+         read 1 27 => 0xFF800000
+         read 2 1 => 0; read 2 5 => 8; read 2 6 => 0x80; read 2 10 => 0f 0x1F; read 2 13 => 0; read 2 14 => 0
+         read 2 15 => 0; read 2 16 => 0f
+         read 3 1 => 0; read 3 5 => 8; read 3 6 => 0x80; read 3 11 => 0f 100f; read 3 23 => 0; read 3 24 => 1
+         read 3 25 => 0f; read 3 36 => 0; read 3 37 => 0f 0x1F; read 3 38 => 0f 100f; total => total 0",
+    );
+    // The operator's pairs: 0, 0x4C.
+    play(
+        "write 1 5 0x10 0; write 2 5 0x10 0; write 3 5 0x10 0; tick 0 50f 0x80 50f 0x80 => position 0f
+         image 15 => bytes 00 00 00 00 4C 00 00 00 00 4C 00 00 00 00 4C",
+    );
+}
+
+#[test]
+fn scale_words() {
+    play(
+        "write 1 11 0 0x80000000 => refused 5; write 1 11 7f 7f => refused 5; write 1 11 nan 7f => refused 5
+         write 1 11 7f inf => refused 5; write 1 11 100f 0f => ok; write 1 11 0 1 => ok; read 1 11 => 0 1
+         write 1 11 -3e38f 3e38f => ok; write 3 38 100f 0f => ok; write 3 11 1f 1f => refused 5; read 1 1 => 3
+         read 3 1 => 1",
+    );
+}
+
+#[test]
+fn ranges() {
+    // −0 where 0 passes, but only as a float.
+    play(
+        "write 1 16 -0f 0 => ok; read 1 16 => 0x80000000; write 1 19 -0f 0 => ok; read 1 19 => 0x80000000
+         write 1 17 -0f 0 => refused 5; write 2 13 -0f 0 => refused 5; write 1 16 -1e-45f 0 => refused 5
+         write 1 19 -1e-45f 0 => refused 5; write 1 16 3600f 0 => ok; write 1 16 0x45610001 0 => refused 5
+         write 1 19 inf 0 => refused 5; write 1 19 3e38f 0 => ok",
+    );
+    // A NaN is in no range.
+    for nan in ["nan", "0x7F800001", "0xFFFFFFFF"] {
+        for parameter in ["1 16", "1 18", "1 19", "1 21", "1 23", "1 25", "1 27", "2 16", "3 25"] {
+            play(&format!("write {parameter} {nan} 0 => refused 5"));
+        }
+        for block in [1, 2, 3] {
+            let parameter = if block == 3 { 37 } else { 10 };
+            play(&format!("write {block} 5 0x10 0; write {block} {parameter} {nan} 0 => refused 5"));
+        }
+    }
+    // Limits: the infinity of their own side.
+    play(
+        "write 1 21 -inf 0 => refused 5; write 1 23 -inf 0 => refused 5; write 1 25 inf 0 => refused 5
+         write 1 27 inf 0 => refused 5; write 1 21 inf 0 => ok; write 1 27 -inf 0 => ok; write 1 23 -3e38f 0 => ok",
+    );
+    // ±10^9.
+    play(
+        "write 2 16 0x4E6E6B28 0 => ok; write 2 16 0x4E6E6B29 0 => refused 5; write 2 16 0xCE6E6B28 0 => ok
+         write 2 16 0xCE6E6B29 0 => refused 5; write 2 5 0x10 0; write 2 10 0x4E6E6B28 255 => ok
+         write 2 10 0x4E6E6B29 0 => refused 5; write 2 10 0f 256 => refused 5",
+    );
+    // Codes and second words.
+    play(
+        "write 1 5 8 1 => refused 5; write 1 5 2 0 => refused 5; write 2 5 2 0 => refused 5; write 3 5 2 0 => ok
+         write 1 5 0x108 0 => refused 5; write 1 17 3 0 => refused 5; write 2 13 3 0 => refused 5
+         write 2 14 3 0 => ok; write 2 14 4 0 => refused 5; write 2 15 3 0 => refused 5; write 3 23 65535 0 => ok
+         write 3 23 65536 0 => refused 5; write 3 24 3 0 => refused 5; write 3 36 1 0 => ok
+         write 3 36 2 0 => refused 5; write 0 18 32768 0 => refused 5; write 0 18 0 1 => refused 5
+         write 0 18 67993 0 => refused 5",
+    );
+}
+
+#[test]
+fn what_an_operator_writes_shows_with_the_tick() {
+    play("write 1 5 0x10 0; write 1 10 7f 0x83; read 1 10 => 0f 0x1F; ain 0f 0x80; read 1 10 => 7f 0x83");
+    play(
+        "tot 1f 0x80; write 2 5 0x10 0; write 2 10 0.29f 0xA7; read 2 10 => 0.1f 0x80; total => total 290
+         off; read 2 10 => 0.1f 0x1F; write 2 5 8 0; tot 0f 0x81; read 2 10 => 0.29f 0x81
+         write 2 5 0x10 0; tot 0f 0x80; read 2 10 => 0.29f 0xA7 // kept through Auto and O/S
+         warm; read 2 10 => 0.29f 0x1F; tot 0f 0x80; read 2 10 => 0.29f 0x4C",
+    );
+}
+
+#[test]
+fn revisions() {
+    play(
+        "write 1 5 8 0; write 1 5 0x10 0; write 1 10 0f 0; read 1 1 => 2
+         write 2 5 0x10 0; write 2 10 0f 0; write 2 13 1 0; write 2 14 1 0; read 2 1 => 1; write 2 15 0 0; read 2 1 => 2
+         write 0 18 2457 0; write 1 17 9 0 => refused 5; read 1 1 => 2; read 2 1 => 2; read 3 1 => 0
+         warm; read 1 1 => 2; read 2 1 => 2",
+    );
+}
+
+// Mode
+
+#[test]
+fn modes() {
+    // RCas at once, and in fail-safe.
+    play("write 3 5 2 0; ain 0f 0x80 => position 0f; read 3 6 => 2; read 3 37 => 0f 0x4C");
+    // O/S keeps the last usable value, the rate and the telegrams, and n goes on.
+    play(
+        "write 2 15 2 0; write 3 23 2 0; sp 50f 0x80; tick 0 50f 0x80 1f 0x80 => position 50f; off => rest
+         image 15 => bytes 42 48 00 00 1F 3D CC CC CD 1F 42 48 00 00 1F; read 1 6 => 0x80; read 2 6 => 0x80
+         read 3 6 => 0x80; read 1 5 => 8
+         tick 0 0f 0 0f 0 => position 50f; read 1 10 => 50f 0x44; read 2 10 => 0.2f 0x44; read 3 37 => 50f 0x80
+         ain 0f 0; read 3 37 => 50f 0x44",
+    );
+    // At once after a warm start.
+    play(
+        "write 1 23 40f 0; tick 0 50f 0x80 1f 0x80; read 1 7 => 2; warm; read 1 10 => 50f 0x1F; read 1 6 => 0x80
+         read 1 7 => 0; read 2 10 => 0.1f 0x1F; read 3 6 => 0x80; total => total 100; warm; read 1 10 => 50f 0x1F
+         ain 0f 0; read 1 10 => 0f 0x4C",
+    );
+    // AO keeps its value over a warm start, the operator's pair goes.
+    play(
+        "write 3 5 0x10 0; write 3 37 33f 0x80; ain 0f 0x80 => position 33f; warm; write 3 5 8 0
+         ain 0f 0x80 => position 33f; read 3 37 => 33f 0x4C; write 3 5 0x10 0; ain 0f 0x80 => position 0f",
+    );
+    // A fault does not refuse the operator.
+    play("write 1 5 0x10 0; off; write 1 10 7f 0x80 => ok; ain 0f 0x80; read 1 10 => 7f 0x80");
+}
+
+// AIN
+
+/// Scales that leave a value as it is, but for −0.
+const PLAIN: &str = "write 1 11 0f 1f; write 1 12 0f 1f\n";
+
+fn play_plain(script: &str) {
+    play(&[PLAIN, script].concat());
+}
+
+#[test]
+fn filter() {
+    play_plain("write 1 16 -0f 0; ain 1e8f 0x80; ain 1f 0x80; read 1 10 => 1f 0x80");
+    // Filled with PV_FTIME 0 and by quality 1; not emptied by an unusable tick.
+    play_plain("ain 10f 0x40; write 1 16 0.1f 0; ain nan 0x80; ain 20f 0x80; read 1 10 => 15f 0x80");
+    // Emptied by Man and O/S.
+    play_plain("write 1 16 0.1f 0; ain 10f 0x80; write 1 5 0x10 0; ain 0f 0x80; write 1 5 8 0; ain 20f 0x80; read 1 10 => 20f 0x80");
+    play_plain("write 1 16 0.1f 0; ain 10f 0x80; off; ain 20f 0x80; read 1 10 => 20f 0x80");
+    // Left as it was when a scale changes.
+    play_plain("ain 10f 0x80; write 1 16 0.1f 0; write 1 12 0f 2f; ain 10f 0x80; read 1 10 => 15f 0x80");
+}
+
+#[test]
+fn input_status() {
+    play(
+        "write 1 17 2 0; ain nan 0x0D; read 1 10 => 0f 0x0D; ain inf 0x83; read 1 10 => 0f 0x10
+         ain 40f 0xC3; read 1 10 => 40f 0x04; ain -inf 0xE0; read 1 10 => 40f 0x04; ain 25f 0x1C; read 1 10 => 25f 0x1C",
+    );
+    // Filtered not finite: the filter keeps the old PV.
+    play_plain(
+        "write 1 17 2 0; write 1 16 0.1f 0; ain 3e38f 0x80; ain -3e38f 0x80; read 1 10 => -3e38f 0x04
+         ain 3e38f 0x80; read 1 10 => 3e38f 0x80",
+    );
+    // Scaled not finite: old OUT.
+    play_plain("write 1 17 2 0; ain 5f 0x80; write 1 12 0f 1e30f; ain 1e30f 0x80; read 1 10 => 5f 0x04");
+}
+
+#[test]
+fn fail_safe_types() {
+    play(
+        "write 1 11 0f 64f; write 1 12 0f 64f; write 1 17 2 0; write 1 16 1.5f 0; ain 0f 0x80
+          ain 64f 0; read 1 10 => 64f 0; ain 32f 0x80; read 1 10 => 2f 0x80 // not put into the filter",
+    );
+    play("ain 50f 0x80; write 1 12 0f 200f; ain 10f 0; read 1 10 => 50f 0x44");
+    // A Man value is no Auto value; without one 0, not the old OUT.
+    play(
+        "write 1 5 0x10 0; write 1 10 7f 0x80; ain 0f 0x80; write 1 5 8 0; ain 0f 0; read 1 10 => 0f 0x4C
+         ain 50f 0x40; read 1 10 => 50f 0x40; write 1 5 0x10 0; ain 0f 0x80; read 1 10 => 7f 0x80; off
+         write 1 5 8 0; ain 0f 0; read 1 10 => 50f 0x44",
+    );
+    play("write 1 17 0 0; write 1 18 7f 0; ain 50f 0x80; ain 0f 0; read 1 10 => 7f 0x48; write 1 17 1 0; ain 0f 0; read 1 10 => 50f 0x44");
+}
+
+#[test]
+fn alarms() {
+    // In Man, and on fail-safe values.
+    play("write 1 23 80f 0; write 1 5 0x10 0; write 1 10 90f 0x80; ain 0f 0x80; read 1 7 => 2; read 1 10 => 90f 0x80");
+    play("write 1 25 20f 0; ain 50f 0; read 1 7 => 4; read 1 10 => 0f 0x4C");
+    // A limit or hysteresis write alone moves none; an infinite limit lets one fall at the next tick.
+    play_plain(
+        "write 1 23 80f 0; ain 90f 0x80; write 1 23 inf 0; write 1 19 0f 0; read 1 7 => 2; ain 90f 0x80; read 1 7 => 0
+         write 1 23 80f 0; read 1 7 => 0",
+    );
+    // A hysteresis that overflows: it never falls by value.
+    play_plain(
+        "write 1 19 3e38f 0; write 1 23 -3e38f 0; ain 0f 0x80; ain -3.4e38f 0x80; read 1 7 => 2; off; read 1 7 => 0",
+    );
+    play_plain("write 1 19 3e38f 0; write 1 25 3e38f 0; ain 0f 0x80; ain 3.4e38f 0x80; read 1 7 => 4");
+    // HI_HI, LO_LO, HI, LO.
+    play_plain(
+        "write 1 21 80f 0; write 1 23 70f 0; write 1 25 75f 0; write 1 27 72f 0
+         ain 80f 0x80; read 1 7 => 3; read 1 10 => 80f 0x8E
+         ain 71f 0x80; read 1 7 => 14; read 1 10 => 71f 0x8D
+         ain 74f 0x80; read 1 7 => 6; read 1 10 => 74f 0x8A
+         ain 60f 0x80; read 1 7 => 12; read 1 10 => 60f 0x8D
+         write 1 27 -inf 0; ain 60f 0x80; read 1 7 => 4; read 1 10 => 60f 0x89",
+    );
+    // The whole byte is replaced, or stays; quality 1 keeps its own.
+    play_plain(
+        "write 1 23 80f 0; ain 50f 0x83; read 1 10 => 50f 0x83; ain 50f 0xA1; read 1 10 => 50f 0xA1
+         ain 80f 0x83; read 1 10 => 80f 0x8A; ain 80f 0x43; read 1 10 => 80f 0x43; read 1 7 => 2",
+    );
+    // Limits compare as numbers.
+    play_plain("write 1 23 -0f 0; ain 0f 0x80; read 1 7 => 2");
+}
+
+#[test]
+fn overflowing_spans() {
+    play("write 1 11 -3e38f 3e38f; write 1 12 7f 9f; ain 0f 0x80; read 1 10 => 7f 0x80");
+    play("write 1 17 2 0; write 1 12 -3e38f 3e38f; ain 0f 0x80; read 1 10 => 0f 0x04; ain 50f 0x80; read 1 10 => 0f 0x04");
+}
+
+// TOT
+
+#[test]
+fn increments() {
+    play("tot 2e7f 0x80; total => total 1000000000; tot -2e7f 0x80; total => total 0");
+    play("tot 0x3E947AE1 0x80; total => total 29"); // exactly 28.999…
+    play("write 2 13 2 0; write 2 16 0x3E947AE1 0; tot 0f 0x80; total => total 290; read 2 10 => 0.29f 0x80");
+    play("tot 3.4e38f 0x80; total => total 1000000000; tot -3.4e38f 0x80; total => total 0");
+    play("tot inf 0x80; total => total 0; read 2 10 => 0f 0x10");
+    play("tot 1f 0xC3; total => total 100; read 2 10 => 0.1f 0x04; tot 1f 0x0D; total => total 200; read 2 10 => 0.2f 0x0D");
+    play("tot nan 0x0D; read 2 10 => 0f 0x0D; tot nan 0xC0; read 2 10 => 0f 0x04; total => total 0");
+}
+
+#[test]
+fn fail_tot() {
+    play("tot 1f 0x80; tot nan 0x80; read 2 10 => 0.1f 0x10");
+    play("write 2 15 1 0; tot 1f 0x80; tot 1f 0; read 2 10 => 0.1f 0x40; tot nan 0x80; read 2 10 => 0.1f 0x40");
+    play("write 2 15 2 0; tot 1f 0; read 2 10 => 0f 0x4C; tot 1f 0x40; tot 7f 0; read 2 10 => 0.2f 0x44; warm; tot 7f 0; read 2 10 => 0.2f 0x4C");
+    // MODE_TOT now, not then.
+    play(
+        "write 2 15 2 0; write 2 14 1 0; tot -2f 0x80; total => total 0; write 2 14 0 0; tot 0f 0; total => total -200",
+    );
+    // The rate of a reset tick is remembered, that of a Man tick is not.
+    play(
+        "write 2 15 2 0; write 2 13 1 0; tot 1f 0x80; write 2 13 0 0; write 2 5 0x10 0; tot 9f 0x80; write 2 5 8 0
+         tot 0f 0; total => total 100",
+    );
+}
+
+#[test]
+fn reset_and_preset() {
+    for fail_tot in [0, 1, 2] {
+        play(&format!(
+            "write 2 15 {fail_tot} 0; tot 9f 0x80; write 2 14 3 0; write 2 16 5f 0; write 2 13 2 0
+             tot 1f 0x83; read 2 10 => 5f 0x83; tot 1f 0x0D; read 2 10 => 5f 0x0D; tot nan 0x80; read 2 10 => 5f 0x10
+             write 2 13 1 0; tot 1f 0xC0; read 2 10 => 0f 0x04"
+        ));
+    }
+    // Not in Man or O/S.
+    play("tot 1f 0x80; write 2 13 1 0; off; total => total 100; write 2 5 0x10 0; tot 1f 0x80; total => total 100");
+}
+
+#[test]
+fn mode_tot() {
+    play("write 2 14 3 0; tot 1f 0x83; read 2 10 => 0f 0x83");
+    play("write 2 14 1 0; tot 1f 0x80; tot -1f 0x80; total => total 100; write 2 14 2 0; tot 5f 0x80; tot -3f 0x80; total => total -200");
+    play("tot 1f 0; tot 1f 0x80; read 2 10 => 0.2f 0x80"); // no trace of the Bad tick
+}
+
+#[test]
+fn value_given() {
+    // 16,777,219 = 16,000,000 + 777,212 + 7, then 32 more.
+    play(
+        "write 2 5 0x10 0; write 2 10 16000f 0x80; write 2 5 8 0; tot 7772.125f 0x80; tot 0.078125f 0x80
+         total => total 16777219; read 2 10 => 0x46831270 0x80 // nearest: 46831271
+         tot 0.328125f 0x80; total => total 16777251; read 2 10 => 0x46831280 0x80 // all bits divided: 46831281",
+    );
+    play(
+        "write 2 5 0x10 0; write 2 10 -16000f 0x80; write 2 5 8 0; tot -7772.125f 0x80; tot -0.078125f 0x80
+         total => total -16777219; read 2 10 => 0xC6831270 0x80",
+    );
+    play(
+        "write 2 13 2 0; write 2 16 1e9f 0; tot 0f 0x80; total => total 999999995904; read 2 10 => 0x4E6E6B28 0x80
+          write 2 13 0 0; tot 1e7f 0x80; total => total 1000000000000; read 2 10 => 0x4E6E6B28 0x80",
+    );
+    play("write 2 13 2 0; write 2 16 -1e9f 0; tot 0f 0x80; write 2 13 0 0; 2 * tot -1e7f 0x80; total => total -1000000000000");
+    play("write 2 5 0x10 0; write 2 10 -0.0019f 0x80; tot 0f 0x80; total => total -1; read 2 10 => 0xBA83126F 0x80");
+}
+
+// AO
+
+#[test]
+fn usable_telegrams() {
+    play("sp 50f 0x4C; ain 0f 0x80; read 3 37 => 0f 0x4C");
+    play("sp 50f 0xC0; ain 0f 0x80; read 3 37 => 50f 0x80");
+    play("write 3 5 2 0; rcas 50f 0x80; ain 0f 0x80; read 3 37 => 50f 0x80");
+    for status in ["0x84", "0xFC", "0x81", "0xA8", "0x9F"] {
+        play(&format!("sp 50f {status}; ain 0f 0x80; read 3 37 => 50f 0x80"));
+    }
+    // IFS whatever the value; a good byte with a NaN ends nothing.
+    for status in ["0xA0", "0xA3", "0xE0", "0xE3"] {
+        play(&format!(
+            "write 3 23 9 0; sp 50f 0x80; sp nan {status}; ain 0f 0x80; read 3 37 => 50f 0x44
+             sp nan 0x80; sp inf 0xC0; sp 1f 0x4C; ain 0f 0x80; read 3 37 => 50f 0x44
+             sp 25f 0x80; ain 0f 0x80; read 3 37 => 25f 0x80"
+        ));
+    }
+    play("sp 50f 0xA0; ain 0f 0x80; read 3 37 => 0f 0x4C"); // no usable one
+    play("sp 50f 0x80; sp 25f 0x80; sp 10f 0x40; ain 0f 0x80 => position 25f"); // no queue
+    play("write 3 5 2 0; write 3 23 9 0; sp 50f 0x80; ain 0f 0x80 => position 0f; read 3 37 => 0f 0x4C");
+    // SP does not stand in
+}
+
+#[test]
+fn silence() {
+    play("sp 50f 0x80; ain 0f 0x80; read 3 37 => 50f 0x80; ain 0f 0x80; read 3 37 => 50f 0x44");
+    // In any mode, and for both inputs; an unusable telegram does not restart n.
+    play("write 3 23 2 0; sp 50f 0x80; off; write 3 5 0x10 0; ain 0f 0x80; sp 1f 0x40; write 3 5 8 0; ain 0f 0x80; read 3 37 => 50f 0x80
+          sp nan 0x80; ain 0f 0x80; read 3 37 => 50f 0x44");
+    play(
+        "write 3 23 2 0; rcas 50f 0x80; 2 * ain 0f 0x80; sp 25f 0x80; write 3 5 2 0; ain 0f 0x80; read 3 37 => 50f 0x80
+          ain 0f 0x80; read 3 37 => 50f 0x44; write 3 5 8 0; ain 0f 0x80; read 3 37 => 25f 0x80",
+    );
+    // n past 16 bits.
+    play("write 3 23 65535 0; sp 50f 0x80; 65536 * ain 0f 0x80; read 3 37 => 50f 0x80; ain 0f 0x80; read 3 37 => 50f 0x44; 65536 * ain 0f 0x80; read 3 37 => 50f 0x44");
+    // Not latched.
+    play("sp 50f 0x80; 3 * ain 0f 0x80; read 3 37 => 50f 0x44; write 3 23 3 0; ain 0f 0x80; read 3 37 => 50f 0x80; ain 0f 0x80; read 3 37 => 50f 0x44");
+}
+
+#[test]
+fn fail_safe_of_ao() {
+    // The last usable setpoint is scaled by the scale of now; the cases without a value keep OUT.
+    play("sp 50f 0x80; ain 0f 0x80; write 3 38 0f 200f; ain 0f 0x80 => position 100f; read 3 37 => 100f 0x44");
+    play("sp 50f 0x80; ain 0f 0x80; write 3 38 0f 200f; write 3 24 2 0; ain 0f 0x80 => safe; read 3 37 => 50f 0; off => rest");
+    play("write 3 24 0 0; write 3 25 50f 0; write 3 38 0f 200f; ain 0f 0x80 => position 100f; read 3 37 => 100f 0x48; write 3 36 1 0; write 3 25 25f 0; ain 0f 0x80 => position 150f");
+    play("write 3 5 0x10 0; write 3 37 33f 0x80; ain 0f 0x80 => position 33f; write 3 5 8 0; write 3 24 2 0; ain 0f 0x80 => safe; read 3 37 => 33f 0");
+    // Scaling fails: old OUT, 0x04, following or not.
+    play(
+        "sp 50f 0x80; ain 0f 0x80; write 3 38 -3e38f 3e38f; write 3 23 9 0; sp 25f 0x80; ain 0f 0x80 => position 50f
+         read 3 37 => 50f 0x04; sp 25f 0xA0; ain 0f 0x80 => position 50f; read 3 37 => 50f 0x04; write 3 24 0 0
+         ain 0f 0x80 => position 50f; read 3 37 => 50f 0x04; write 3 24 2 0; ain 0f 0x80 => safe; read 3 37 => 50f 0",
+    );
+}
+
+#[test]
+fn scaling_of_ao() {
+    play("write 3 36 1 0; sp 0x3F333333 0x80; ain 0f 0x80 => position 0x42C69999"); // (high − w): 42C6999A
+    play("write 3 11 4f 20f; write 3 38 3f 15f; sp 15f 0x80; ain 0f 0x80 => position 11.25f");
+    play("write 3 36 1 0; write 3 5 0x10 0; write 3 37 33f 0x80; ain 0f 0x80 => position 33f");
+    // never in Man
+}
+
+// Bus image and refusals
+
+#[test]
+fn image_and_part() {
+    play(
+        "image 14 => refused 7; image 0 => refused 7; write 1 5 0x10 0; write 1 10 7f 0x80; tick 0 0f 0x80 1f 0x80
+         write 1 10 8f 0x80; image 16 => bytes 40 E0 00 00 80 3D CC CC CD 80 00 00 00 00 4C A5
+         warm; image 15 => bytes 40 E0 00 00 1F 3D CC CC CD 1F 00 00 00 00 1F
+         part 1 15 => bytes 00 01 02 03 04; part 2 15 => bytes 05 06 07 08 09; part 3 15 => bytes 0A 0B 0C 0D 0E
+         part 3 64 => bytes 0A 0B 0C 0D 0E; part 1 14 => bytes; part 0 15 => bytes; part 4 64 => bytes; part 255 64 => bytes",
+    );
+}
+
+#[test]
+fn refusals() {
+    play(
+        "read 4 1 => refused 1; read 2 7 => refused 2; write 1 1 0 0 => refused 3; write 1 5 0x02 0 => refused 5
+          write 1 10 0 0 => refused 6; telegram 0 1 2 3 4 => refused 7; telegram 2 1 2 3 4 5 => refused 8",
+    );
+    // The order of the grounds.
+    play(
+        "write 0 18 0 0; write 1 5 8 0 => refused 4; write 1 1 0 0 => refused 3; write 1 5 2 0 => refused 4
+         write 1 8 0 0 => refused 2; write 9 18 0 0 => refused 1; write 1 18 0 0 => refused 4; write 0 5 0 0 => refused 2
+         write 0 18 1 0 => refused 5; write 0 18 0 0 => ok; write 0 18 2457 0 => ok; write 1 5 8 0 => ok",
+    );
+    play("write 1 10 nan 0 => refused 5; write 1 10 0f 256 => refused 5; write 2 10 2e9f 0 => refused 5; write 3 37 inf 0 => refused 5");
+    play("telegram 2 1 2 3 4 => refused 8; telegram 0 1 2 3 4 5 6 => refused 7; telegram 1 => refused 7; telegram 255 => refused 8");
+    // 6 goes by the target.
+    play("write 1 5 0x10 0; read 1 6 => 0x80; write 1 10 1f 0 => ok; ain 0f 0x80; write 1 5 8 0; read 1 6 => 0x10; write 1 10 1f 0 => refused 6");
+}
+
+// The call script
+
+#[test]
+fn script_lines() {
+    let replayed = |script: &[u8]| {
+        let mut out = Vec::new();
+        replay(&mut Model::factory(), script, &mut out).unwrap();
+        String::from_utf8(out).unwrap()
+    };
+    assert_eq!(replayed(b""), "");
+    assert_eq!(replayed(b"\n  \n# tick\n#\n"), "");
+    assert_eq!(
+        replayed(b"  read   1  0x0005 \nread 1 5"),
+        "words 0x00000008 0x00000000\nwords 0x00000008 0x00000000\n"
+    );
+    assert_eq!(
+        replayed(b"read 0x000000000000000001 00000000000000000005\nread 1 0xa\n"),
+        "words 0x00000008 0x00000000\nwords 0x00000000 0x0000001F\n"
+    );
+    for line in [
+        " # x",
+        "reads 1 5",
+        "READ 1 5",
+        "read",
+        "read 1",
+        "read 1 5 5",
+        "read 256 5",
+        "read 257 5",
+        "read 1 -5",
+        "read 1 +5",
+        "read 1 0x",
+        "read 1 0X5",
+        "read 1 5h",
+        "read 1\t5",
+        "read 1 5\r",
+        "\r",
+        "\0",
+        "tick 2 0 0 0 0",
+        "tick 0 4294967296 0 0 0",
+        "tick 0 0 256 0 0",
+        "tick 0 0 0 0",
+        "image 65",
+        "image",
+        "part 1 65",
+        "part 256 15",
+        "total 0",
+        "warm 1",
+        "factory 1",
+        "telegram",
+        "telegram 256",
+        "telegram 0 256",
+        "write 1 5 8",
+        "write 1 5 8 0 0",
+        "write 1 5 0x100000000 0",
+        "read 1 18446744073709551621",
+        "read 1 0x10000000000000005",
+    ] {
+        assert_eq!(replayed(line.as_bytes()), "error\n", "{line:?}");
+        assert_eq!(replayed(format!("{line}\ntotal").as_bytes()), "error\ntotal 0\n", "{line:?}");
+    }
+    assert_eq!(replayed(b"read 1 \xFF\n"), "error\n");
+    assert_eq!(
+        replayed(format!("telegram 0{}\ntelegram 0{}", " 1".repeat(64), " 1".repeat(65)).as_bytes()),
+        "refused 7\nerror\n"
+    );
+    // 4,096 bytes are a line, one more is none, with or without the end.
+    let padded = |length: usize| format!("total{}", " ".repeat(length - 5));
+    assert_eq!(replayed(padded(4096).as_bytes()), "total 0\n");
+    assert_eq!(replayed(padded(4097).as_bytes()), "error\n");
+    assert_eq!(
+        replayed(format!("{}\n{}\ntotal\n", padded(4096), padded(4097)).as_bytes()),
+        "total 0\nerror\ntotal 0\n"
+    );
+    assert_eq!(replayed(format!("{}\ntotal\n", padded(100_000)).as_bytes()), "error\ntotal 0\n");
+    assert_eq!(
+        replayed(b"tick 0 0x42480000 0x80 0 128\ntick 1 0 0 0 0\nwrite 3 24 2 0\ntick 0 0 0 0 0\n"),
+        "position 0x00000000\nrest\nok\nsafe\n"
+    );
+    assert_eq!(
+        replayed(b"write 2 17 0 0\nwrite 2 13 1 0\nfactory\nread 2 13\nwarm\n"),
+        "refused 2\nok\nok\nwords 0x00000000 0x00000000\nok\n"
+    );
+}
