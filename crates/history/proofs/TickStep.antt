@@ -48,11 +48,11 @@ use Rattle.history.proofs.Ticks.{IsMode, IsAoMode, ao-target, target, m
 
 module _ (h : History Event) (S : Sound h) where
   ain-mode : (fault : Bool) → IsMode (modeAt h fault 1)
-  unfolding modeAt entryOf entryIn Table.ain
+  unfolding modeAt actualMode entryOf entryIn Table.ain
   ain-mode fault = mode fault (stored h 1 5 .first) (target (stored h 1 5 .first) (stored h 1 5 .second) (and-l (allowsOf (Mode false) (stored h 1 5 .first) (stored h 1 5 .second)) _ (S 1 5)))
 
   tot-mode : (fault : Bool) → IsMode (modeAt h fault 2)
-  unfolding modeAt entryOf entryIn Table.tot
+  unfolding modeAt actualMode entryOf entryIn Table.tot
   tot-mode fault = mode fault (stored h 2 5 .first) (target (stored h 2 5 .first) (stored h 2 5 .second) (and-l (allowsOf (Mode false) (stored h 2 5 .first) (stored h 2 5 .second)) _ (S 2 5)))
 
   set-small : stored h 2 13 .first ≤ 2
@@ -156,19 +156,19 @@ module _ (d : Device) (h : History Event) (A : Agrees d h) (S : Sound h) (fault 
 
   -- each block's tick goes by the settings of the rules
   ain-next : next .ain .state ≡ Ain.tickBy (ainAt h) (d .ain .state) (modeAt h fault 1) (ain .bits) (ain .status)
-  unfolding tickOf Ain.tickOf modeAt ainAt ainBy
+  unfolding tickOf Ain.tickOf modeAt actualMode ainAt ainBy
   ain-next = ap (λ (s : AinSettings). Ain.tickOf s (d .ain .state) fault (ain .bits) (ain .status)) (A .ain)
 
   tot-next : next .tot .state ≡ Tot.tickBy (totAt h) (d .tot .state) (modeAt h fault 2) (tot .bits) (tot .status)
-  unfolding tickOf Tot.tickOf modeAt totAt totBy
+  unfolding tickOf Tot.tickOf modeAt actualMode totAt totBy
   tot-next = ap (λ (s : TotSettings). Tot.tickOf s (d .tot .state) fault (tot .bits) (tot .status)) (A .tot)
 
   ao-next : next .ao .state ≡ Ao.tickedWith (d .ao .state) (modeAt h fault 3) (Ao.givenIn (aoAt h) (d .ao .state) (modeAt h fault 3)) .state
-  unfolding tickOf Ao.tickOf modeAt aoAt aoBy
+  unfolding tickOf Ao.tickOf modeAt actualMode aoAt aoBy
   ao-next = ap (λ (s : AoSettings). Ao.tickOf s (d .ao .state) fault .state) (A .ao)
 
   ao-order : order ≡ Ao.driveOrder (Ao.givenIn (aoAt h) (d .ao .state) (modeAt h fault 3) .order)
-  unfolding tickOf Ao.tickOf Ao.tickedWith modeAt aoAt aoBy
+  unfolding tickOf Ao.tickOf Ao.tickedWith modeAt actualMode aoAt aoBy
   ao-order = ap (λ (s : AoSettings). Ao.tickOf s (d .ao .state) fault .order) (A .ao)
 
   -- the input in use, by the rules

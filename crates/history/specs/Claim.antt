@@ -6,7 +6,8 @@ use mathlib.Core.List.{List}
 use lib.Dec.{T, eqb, ltb}
 use lib.Ieee.Scale.{finite}
 use Rattle.wire.specs.declared.Pair.{Pair}
-use Rattle.blocks.specs.Common.{auto, rcas, good}
+use Rattle.wire.specs.Status.{qualityOf}
+use Rattle.blocks.specs.Common.{auto, rcas}
 use Rattle.ain.specs.Tick.{calculated}
 use Rattle.ao.specs.declared.Order.{Order}
 use Rattle.ao.specs.Tick.{driveOrder}
@@ -24,6 +25,10 @@ use Rattle.history.specs.Rules.{isAccepted, isMet, accepted, stored, stR
 -- AO acts by a setpoint: in Auto and RCas
 abbrev pub follows : ℕ → Bool
 follows mode = eqb mode auto || eqb mode rcas
+
+-- "Good is quality 2 alone."
+abbrev pub good : ℕ → Bool
+good status = eqb (qualityOf status) 2
 
 -- what is claimed of a tick, by the accepted events before it
 pub record TickClaim (h : History Event) (fault : Bool) (ain : Pair) (ainOut aoOut : Words) (order : Order) : Type 0 where

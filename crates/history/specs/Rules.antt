@@ -19,7 +19,7 @@ use Rattle.wire.specs.Bytes.{pairOf}
 use Rattle.blocks.specs.declared.Kept.{Kept}
 use Rattle.blocks.specs.declared.Input.{Input}
 use Rattle.blocks.specs.declared.Input.the-variants.{Usable, Bad}
-use Rattle.blocks.specs.Common.{outOfService, auto, rcas, actualMode}
+use Rattle.blocks.specs.Common.{outOfService, auto, rcas}
 use Rattle.blocks.specs.Common as Common
 use Rattle.ain.specs.declared.Settings.{Settings as AinSettings}
 use Rattle.ain.specs.Tick.{calculated, inputOf}
@@ -116,9 +116,10 @@ stRev h block = count (isStaticWrite block) h % 65536
 
 -- ---- modes
 
--- "A tick goes by the words last accepted before it, else the defaults, also for its actual modes."
+-- "A tick goes by the words last accepted before it, else the defaults, also for its actual modes."; "the actual mode is O/S if the fault flag is set or the
+-- target is O/S, else the target"
 unfoldable pub modeAt : History Event → Bool → ℕ → ℕ
-modeAt h fault block = actualMode fault (stored h block 5 .first)
+modeAt h fault block = cond (fault || eqb (stored h block 5 .first) outOfService) outOfService (stored h block 5 .first)
 
 unfoldable pub ainAt : History Event → AinSettings
 ainAt h = ainBy (stored h)
