@@ -1,6 +1,6 @@
 -- AO's telegrams, from paper 01, "AO tick" and "Refused calls". Assumes nothing.
 use Prim.Native.Nat.{ℕ}
-use mathlib.Core.Bool.{Bool, cond}
+use mathlib.Core.Bool.{cond}
 use mathlib.Core.List.{List}
 use lib.Dec.{eqb, ltb}
 use lib.Ieee.Scale.{finite}
@@ -14,14 +14,10 @@ use Rattle.wire.specs.Bytes.{pairOf}
 use Rattle.ao.specs.declared.Input.{Input}
 use Rattle.ao.specs.declared.State.{State}
 use Rattle.ao.specs.declared.Taken.{Taken}
-use Rattle.ao.specs.FailSafe.{usable, afterTelegram}
+use Rattle.ao.specs.FailSafe.{afterTelegram}
 use Rattle.ao.specs.State.{inputOf, inputFrom}
 
--- a telegram's pair is usable: "Finite" is asked of the value
-unfoldable pub usablePair : Pair → Bool
-usablePair pair = usable (pair .status) (finite (floatOf (pair .bits)))
-
--- an input after a telegram on it
+-- an input after a telegram on it; "finite" is asked of the value
 unfoldable pub inputAfter : Input → Pair → Input
 inputAfter input pair =
     inputFrom (afterTelegram (pair .status) (finite (floatOf (pair .bits))) (floatOf (pair .bits)) (inputOf input))

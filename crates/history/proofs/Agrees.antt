@@ -144,10 +144,6 @@ pub cond-ap : {X A : Type 0} (g : X → A) (p : Bool) (x y : X) → g (cond p x 
 cond-ap g true x y = refl
 cond-ap g false x y = refl
 
-cond-same : {A : Type 0} (p : Bool) (x : A) → cond p x x ≡ x
-cond-same true x = refl
-cond-same false x = refl
-
 module _ (h : History Event) (block number a b : ℕ) where
   abbrev then : History Event
   then = h ▷ wrote block number a b
