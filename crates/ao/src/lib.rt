@@ -1,10 +1,10 @@
 // AO, the analog output block (paper 01, "AO tick"): setpoint telegrams on two inputs, fail-safe, scaling, and the
 // order that drives the valve.
 ghost use mathlib.Core.Path.{_≡_};
-ghost use Rattle.ao.specs.FailSafe.{classOf, silenceAfter, failSafeActs, failSafeCase, positioned, scaledOr};
-ghost use Rattle.ao.specs.State.{freshState, started, warmStarted, operatedBy, noTelegrams};
+ghost use Rattle.ao.specs.FailSafe.{classOf, silenceAfter, failSafeActs, failSafeCase, caseOf, positioned, scaledOr};
+ghost use Rattle.ao.specs.State.{inputOf, freshState, started, warmStarted, operatedBy, noTelegrams};
 ghost use Rattle.ao.specs.Telegram.{inputAfter, takenOn, telegramOf};
-ghost use Rattle.ao.specs.Tick.{scaledOut, outOf, givenBy, givenByInput, givenIn, inputAfterTick, tickOf};
+ghost use Rattle.ao.specs.Tick.{scaledOut, outOf, givenBy, inputUsed, givenIn, inputAfterTick, tickOf};
 ghost use Rattle.ao.specs.Code.{ruleCase, givenOf};
 use numbers::floats::bits_of;
 use numbers::floats::float_of;
@@ -272,6 +272,35 @@ fn fail_safe_case(kind: u32, fsafe_value: f32, some: bool, last: f32) -> Case
     Case::Safety
 }
 
+// The case of a tick in Auto or RCas, by the input that it uses.
+fn case_of(settings: Settings, input: Input) -> Case
+    ensures { λ r. ⌜ ruleCase r ≡ caseOf (settings .«fsafe_time») (settings .«fsafe_type») (settings .«fsafe_value») (inputOf input) ⌝ }
+{
+    let acts = fail_safe_acts(input.some, input.silence, input.ifs, settings.fsafe_time);
+    if acts {
+        return fail_safe_case(
+            settings.fsafe_type,
+            settings.fsafe_value,
+            input.some,
+            input.value,
+        );
+    }
+    Case::Following(input.value)
+}
+
+// The case by SP, or in RCas by RCAS_IN.
+fn case_in(settings: Settings, state: State, mode: u32) -> Case
+    ensures { λ r. ⌜ ruleCase r ≡ caseOf (settings .«fsafe_time») (settings .«fsafe_type») (settings .«fsafe_value») (inputOf (inputUsed state mode)) ⌝ }
+{
+    let sp = state.sp;
+    let rcas_in = state.rcas_in;
+    let rcas = mode == blocks::RCAS;
+    if rcas {
+        return case_of(settings, rcas_in);
+    }
+    case_of(settings, sp)
+}
+
 // ---- what a case gives
 
 // OUT by a working value, also where it is not finite.
@@ -331,23 +360,6 @@ fn given_by(settings: Settings, old: u32, case: Case) -> Given
     }
 }
 
-// What a tick in Auto or RCas gives, by the input that it uses.
-fn given_by_input(settings: Settings, old: u32, input: Input) -> Given
-    ensures { λ r. ⌜ r ≡ givenOf (givenByInput settings old input) ⌝ }
-{
-    let acts = fail_safe_acts(input.some, input.silence, input.ifs, settings.fsafe_time);
-    if acts {
-        let case = fail_safe_case(
-            settings.fsafe_type,
-            settings.fsafe_value,
-            input.some,
-            input.value,
-        );
-        return given_by(settings, old, case);
-    }
-    given_by(settings, old, Case::Following(input.value))
-}
-
 // ---- the tick
 
 fn given_in(settings: Settings, state: State, mode: u32) -> Given
@@ -355,8 +367,6 @@ fn given_in(settings: Settings, state: State, mode: u32) -> Given
 {
     let old = state.out.bits;
     let operator = state.operator;
-    let sp = state.sp;
-    let rcas_in = state.rcas_in;
     let out_of_service = mode == blocks::OUT_OF_SERVICE;
     if out_of_service {
         return Given {
@@ -371,11 +381,8 @@ fn given_in(settings: Settings, state: State, mode: u32) -> Given
     if man {
         return at_position(operator.bits, operator.status);
     }
-    let rcas = mode == blocks::RCAS;
-    if rcas {
-        return given_by_input(settings, old, rcas_in);
-    }
-    given_by_input(settings, old, sp)
+    let case = case_in(settings, state, mode);
+    given_by(settings, old, case)
 }
 
 // n after a tick.
@@ -394,13 +401,9 @@ fn silence_after(some: bool, n: u32) -> u32
 fn after_tick(input: Input) -> Input
     ensures { λ r. ⌜ r ≡ inputAfterTick input ⌝ }
 {
-    let silence = silence_after(input.some, input.silence);
-    Input {
-        some: input.some,
-        value: input.value,
-        silence,
-        ifs: input.ifs,
-    }
+    let mut next = input;
+    next.silence = silence_after(input.some, input.silence);
+    next
 }
 
 pub fn tick(settings: Settings, state: State, fault: bool) -> Ticked

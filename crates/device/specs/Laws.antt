@@ -181,12 +181,12 @@ module _ (number n : ℕ) (other : eqb number n ≡ false) where
 
   keep-rev : (counted : Bool) (rev : ℕ) (rest : Words) → (eqb n 1 && counted) ≡ false → cond (eqb n 1) (code (revAfter counted rev)) rest ≡ cond (eqb n 1) (code rev) rest
   unfolding revAfter
-  keep-rev counted rev rest = go (eqb n 1) counted
+  keep-rev counted rev rest = go _ (eqb n 1) counted
     where
-      go : (p c : Bool) → (p && c) ≡ false → cond p (code (cond c ((rev + 1) % 65536) rev)) rest ≡ cond p (code rev) rest
-      go true true e = cc
-      go true false e = refl
-      go false c e = refl
+      go : (next : ℕ) (p c : Bool) → (p && c) ≡ false → cond p (code (cond c next rev)) rest ≡ cond p (code rev) rest
+      go next true true e = cc
+      go next true false e = refl
+      go next false c e = refl
 
   module _ (a b : ℕ) where
     ain-kept : (s : AinBlock) → eqb number 10 ≡ false → (eqb n 1 && isStatic 1 number) ≡ false → ainWords (ainWritten s number a b) n ≡ ainWords s n

@@ -70,12 +70,12 @@ pub fn limited_sum(a: i64, b: i64, n: i64) -> i64
     limited(saturated_sum(a, b), n)
 }
 
-// 2 ^ k as a float, for the shifts that `highest` needs.
+// 2 ^ k as a float, for the shifts that `highest` needs: by its exponent field.
 fn power(k: u64) -> f32
-    requires { ⌜ k ≤ 20 ⌝ }
+    requires { ⌜ k ≤ 40 ⌝ }
     ensures { λ r. ⌜ r ≡ ofInt binary32 (pos (2 ^ k)) ⌝ }
 {
-    (1u64 << k) as f32
+    f32::from_bits(((k + 127) << 23) as u32)
 }
 
 // m with all but its 24 highest bits cleared, as a float: exact.
@@ -87,9 +87,8 @@ pub fn highest(m: u64) -> f32
         return m as f32;
     }
     let k = 40 - zeros;
-    let i = k / 2;
     let top = (m >> k) as f32;
-    top * power(i) * power(k - i)
+    top * power(k)
 }
 
 // The magnitude of z: that of i64::MIN too.

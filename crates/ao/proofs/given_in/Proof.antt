@@ -1,7 +1,7 @@
 -- `ao::given_in` meets its contract: the tests of the mode are the definition's, in its order.
 -- Assumes nothing.
 use Rattle.ao.specs.FailSafe.{byMode}
-use Rattle.ao.specs.Tick.{givenIn, inputUsed}
+use Rattle.ao.specs.Tick.{givenByInput, givenIn}
 use borrow.Author.Needs.{needs}
 use Rattle.ao.proofs.given_in.Statement.{statement}
 use Rattle.ao.proofs.given_in.Tie as tie
@@ -17,28 +17,15 @@ returns-2 : tie.Need-returns-2
 unfolding givenIn byMode
 returns-2 c = rw (c .at-position .ensures, c .before .before .if1 .left, c .before .if2 .taken)
 
-given-by-input-requires : tie.Need-given-by-input-requires
-given-by-input-requires c κs = search needs
+case-in-requires : tie.Need-case-in-requires
+case-in-requires c κs = search needs
+
+given-by-requires : tie.Need-given-by-requires
+given-by-requires c κs = search needs
 
 returns-3 : tie.Need-returns-3
-unfolding givenIn byMode inputUsed
-returns-3 c = rw (c .given-by-input .ensures, c .before .before .before .if1 .left, c .before .before .if2 .left, c .before .if3 .taken)
-
-given-by-input-requires-2 : tie.Need-given-by-input-requires-2
-given-by-input-requires-2 c κs = search needs
-
-returns-4 : tie.Need-returns-4
-unfolding givenIn byMode inputUsed
-returns-4 c = rw (c .given-by-input2 .ensures, c .before .before .before .if1 .left, c .before .before .if2 .left, c .before .if3 .left)
+unfolding givenIn byMode givenByInput
+returns-3 c = rw (c .given-by .ensures, c .before .case-in .ensures, c .before .before .before .if1 .left, c .before .before .if2 .left)
 
 pub given-in-spec : {M : Type 1} → statement M
-given-in-spec =
-    tie.close
-    (tie.spec
-    returns
-    at-position-requires
-    returns-2
-    given-by-input-requires
-    returns-3
-    given-by-input-requires-2
-    returns-4)
+given-in-spec = tie.close (tie.spec returns at-position-requires returns-2 case-in-requires given-by-requires returns-3)

@@ -1,0 +1,23 @@
+-- `ao::case_of` meets its contract: the decision and the case are the definition's.
+-- Assumes nothing.
+use Rattle.ao.specs.FailSafe.{caseOf}
+use borrow.Author.Needs.{needs}
+use Rattle.ao.proofs.case_of.Statement.{statement}
+use Rattle.ao.proofs.case_of.Tie as tie
+
+fail-safe-acts-requires : tie.Need-fail-safe-acts-requires
+fail-safe-acts-requires c κs = search needs
+
+fail-safe-case-requires : tie.Need-fail-safe-case-requires
+fail-safe-case-requires c κs = search needs
+
+returns : tie.Need-returns
+unfolding caseOf
+returns c = rw (c .fail-safe-case .ensures, ← c .before .before .fail-safe-acts .ensures, c .before .if1 .taken)
+
+returns-2 : tie.Need-returns-2
+unfolding caseOf
+returns-2 c = rw (← c .before .fail-safe-acts .ensures, c .if1 .left)
+
+pub case-of-spec : {M : Type 1} → statement M
+case-of-spec = tie.close (tie.spec fail-safe-acts-requires fail-safe-case-requires returns returns-2)
