@@ -1,6 +1,6 @@
 -- Laws of AIN's tick: when an Auto tick is Good, that OUT stays finite, and that no alarm rises and falls in one tick. Assumes nothing.
-use Prim.Native.Nat.{ℕ, _/_}
-use mathlib.Core.Path.{_≡_, refl, sym, ap, _∙_, subst}
+use Prim.Native.Nat.{ℕ}
+use mathlib.Core.Path.{_≡_, refl, sym, ap, _∙_}
 use mathlib.Core.Bool.{Bool, true, false, not, _&&_, _||_, cond, true≢false}
 use lib.Dec.{T, eqb}
 use lib.IntN.{pos}
@@ -11,7 +11,6 @@ use borrow.Author.Tests.{eqb-true}
 use Rattle.numbers.specs.Floats.{floatOf, bitsOf}
 use Rattle.numbers.specs.FloatLaws.{float-back, add-right, sub-left, div-left}
 use Rattle.numbers.specs.Order.{not-rise-and-fall}
-use Rattle.scaling.specs.declared.Scale.{Scale}
 use Rattle.scaling.specs.Scaling.{atFraction, fractionOf}
 use Rattle.scaling.specs.Laws.{fraction-unfinished, atFraction-unfinished}
 use Rattle.wire.specs.declared.Pair.{Pair}

@@ -1,5 +1,5 @@
 -- AIN's scaled and filtered value, from paper 01, "AIN tick". Each operation rounds once, in the order written. Assumes nothing.
-use mathlib.Core.Bool.{Bool, not, _||_, cond}
+use mathlib.Core.Bool.{not, _||_, cond}
 use lib.IntN.{pos}
 use lib.Ieee.{Float, binary32, ofInt, add, sub, mul, div, eq}
 use Rattle.scaling.specs.declared.Scale.{Scale}

@@ -1,6 +1,5 @@
 -- AO's state outside ticks and telegrams, from paper 01, "Parameters", "Mode" and "History rules". Assumes nothing.
 use Prim.Native.Nat.{ℕ}
-use mathlib.Core.Bool.{Bool}
 use lib.Ieee.{Float}
 use Rattle.numbers.specs.Floats.{floatOf}
 use Rattle.wire.specs.declared.Pair.{Pair}

@@ -2,7 +2,6 @@
 use Prim.Native.Nat.{ℕ}
 use mathlib.Core.Bool.{Bool, true, false, not, _||_, cond}
 use lib.Dec.{eqb}
-use lib.IntN.{pos}
 use lib.Ieee.{Float, binary32, ofBits}
 use Rattle.wire.specs.declared.Pair.{Pair}
 use Rattle.wire.specs.Status.{qualityOf}

@@ -21,7 +21,7 @@ use Rattle.device.specs.declared.Device.{Device}
 abbrev pub scaleOf : ℕ → ℕ → Scale
 scaleOf a b = record { low = floatOf a; high = floatOf b }
 
--- "value and status"
+-- "value and status"; a status that is accepted is a byte
 abbrev pub pairOf : ℕ → ℕ → Pair
 pairOf a b = record { bits = a; status = b % 256 }
 

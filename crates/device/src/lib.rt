@@ -6,7 +6,7 @@ ghost use denote.Ref.{ptr};
 ghost use Rattle.wire.specs.Image.{imageAnswer, imageBytes, partOf, partPlace};
 ghost use Rattle.parameters.specs.Table.{defaultOf};
 ghost use Rattle.device.specs.Factory.{ainBy, totBy, aoBy, factoryDevice};
-ghost use Rattle.device.specs.Stored.{pairOf, ainSettings, totSettings, aoSettings, revAfter, ainWritten, totWritten, aoWritten, storedIn};
+ghost use Rattle.device.specs.Stored.{ainSettings, totSettings, aoSettings, revAfter, ainWritten, totWritten, aoWritten, storedIn};
 ghost use Rattle.device.specs.Read.{code, float, ends, given, alarmByte, ainWords, totWords, aoWords, wordsOf, readOf};
 ghost use Rattle.device.specs.Calls.{standingOf, writeOf, tickOf, telegramOf, warmStarted};
 use ain::Alarms;

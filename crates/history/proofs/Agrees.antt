@@ -1,21 +1,14 @@
 -- What of a device the rules speak of, and that it agrees with them after the factory call, a write, a telegram and a warm start. Assumes nothing.
-use Prim.Native.Nat.{ℕ, _+_, _%_, _^_, min}
+use Prim.Native.Nat.{ℕ, _+_, _%_, min}
 use native.Mathlib.Omega.{arith}
-use mathlib.Core.Path.{_≡_, refl, sym, ap, _∙_, subst}
-use mathlib.Core.Bool.{Bool, true, false, not, _&&_, _||_, cond, true≢false}
-use mathlib.Core.List.{List}
-use mathlib.Core.Option.{Option, none, some}
-use lib.Dec.{T, eqb, ltb}
-use lib.IntN.{ℤ, pos}
+use mathlib.Core.Path.{_≡_, refl, sym, ap, _∙_}
+use mathlib.Core.Bool.{Bool, true, false, not, _&&_, _||_, cond}
+use mathlib.Core.Option.{none, some}
+use lib.Dec.{eqb}
 use lib.Ieee.{Float}
-use lib.Ieee.Scale.{finite}
 use Rattle.numbers.specs.Floats.{floatOf}
 use Rattle.scaling.specs.declared.Scale.{Scale}
 use Rattle.wire.specs.declared.Pair.{Pair}
-use Rattle.wire.specs.declared.Received.{Received}
-use Rattle.wire.specs.Bytes.{pairOf}
-use Rattle.blocks.specs.declared.Kept.{Kept}
-use Rattle.ain.specs.declared.Settings.{Settings as AinSettings}
 use Rattle.ain.specs.declared.State.{State as AinState}
 use Rattle.ain.specs.declared.Alarms.{Alarms}
 use Rattle.ain.specs.State.{operatedState}
@@ -24,20 +17,19 @@ use Rattle.tot.specs.State.{writtenState}
 use Rattle.tot.specs.Total.{thousandthsOf}
 use Rattle.ao.specs.declared.State.{State as AoState}
 use Rattle.ao.specs.declared.Input.{Input as Setpoint}
-use Rattle.ao.specs.State.{operatedBy, freshState, started, warmStarted, noTelegrams, inputOf, inputFrom}
-use Rattle.ao.specs.FailSafe.{emptied, usable, initiates, afterTelegram, silenceAfter}
-use Rattle.ao.specs.Telegram.{telegramOf, takenOn, inputAfter, receivedOn}
+use Rattle.ao.specs.State.{operatedBy, freshState, started, noTelegrams}
+use Rattle.ao.specs.FailSafe.{emptied}
 use Rattle.parameters.specs.declared.Words.{Words}
 use Rattle.parameters.specs.Table.{words, defaultOf, isStatic}
 use Rattle.device.specs.declared.Device.{Device}
 use Rattle.device.specs.declared.AinBlock.{AinBlock}
 use Rattle.device.specs.declared.TotBlock.{TotBlock}
 use Rattle.device.specs.declared.AoBlock.{AoBlock}
-use Rattle.device.specs.Stored.{scaleOf, ainSettings, totSettings, aoSettings, revAfter, ainWritten, totWritten, aoWritten, storedIn}
-use Rattle.device.specs.Factory.{Valuation, ainBy, totBy, aoBy, factoryDevice}
+use Rattle.device.specs.Stored.{scaleOf, pairOf as pairWritten, ainSettings, totSettings, aoSettings, revAfter, ainWritten, totWritten, aoWritten, storedIn}
+use Rattle.device.specs.Factory.{ainBy, totBy, aoBy, factoryDevice}
 use Rattle.history.specs.Past.{History, start, _▷_, count, countSince, since, latest, told, carried}
-use Rattle.history.specs.Calls.{Event, ticked, telegram, wrote, warmed}
-use Rattle.history.specs.Rules.{stored, wordsTo, never, orDefault, isStaticWrite, stRev, ainAt, totAt, aoAt, filterValue, Alarm, hiHi, hi, lo, loLo, stands, rateValue, total, oldOut, came, setpoint, setpointOn, silence, ifs, isTick, isStart, pairOn, holds, isUsable, isIfs, isUsableOn, isIfsOn, raises, clears, orZero}
+use Rattle.history.specs.Calls.{Event, wrote}
+use Rattle.history.specs.Rules.{stored, wordsTo, never, orDefault, isStaticWrite, stRev, ainAt, totAt, aoAt, filterValue, Alarm, hiHi, hi, lo, loLo, stands, rateValue, total, oldOut, came, setpoint, silence, ifs, isTick, isStart, pairOn, holds, isUsable, isIfs, isUsableOn, isIfsOn, raises, clears}
 use Rattle.history.proofs.Truth.{and-true}
 
 -- a setpoint input by the rules; the count stops at 65,536
@@ -160,8 +152,8 @@ module _ (h : History Event) (block number a b : ℕ) where
   written : {A : Type 0} (g : Words → A) (B N : ℕ) → eqb block B ≡ true → cond (eqb number N) (g (words a b)) (g (stored h B N)) ≡ g (stored then B N)
   written g B N e = sym (ap g (stored-wrote B N ∙ ap (λ (p : Bool). cond (p && eqb number N) (words a b) (stored h B N)) e) ∙ cond-ap g (eqb number N) (words a b) (stored h B N))
 
-  untouched : {A : Type 0} (g : Words → A) (B N : ℕ) → eqb block B ≡ false → g (stored h B N) ≡ g (stored then B N)
-  untouched g B N e = sym (ap g (stored-wrote B N ∙ ap (λ (p : Bool). cond (p && eqb number N) (words a b) (stored h B N)) e))
+  untouched : (B N : ℕ) → eqb block B ≡ false → stored h B N ≡ stored then B N
+  untouched B N e = sym (stored-wrote B N ∙ ap (λ (p : Bool). cond (p && eqb number N) (words a b) (stored h B N)) e)
 
   abbrev code : Words → ℕ
   code w = w .first
@@ -190,19 +182,7 @@ module _ (h : History Event) (block number a b : ℕ) where
 
   ain-untouched : eqb block 1 ≡ false → ainAt h ≡ ainAt then
   unfolding ainAt ainBy
-  ain-untouched e = λ i. record {
-    target = untouched code 1 5 e i;
-    «pv_scale» = untouched scale 1 11 e i;
-    «out_scale» = untouched scale 1 12 e i;
-    «pv_ftime» = untouched float 1 16 e i;
-    «fsafe_type» = untouched code 1 17 e i;
-    «fsafe_value» = untouched float 1 18 e i;
-    «alarm_hys» = untouched float 1 19 e i;
-    «hi_hi_lim» = untouched float 1 21 e i;
-    «hi_lim» = untouched float 1 23 e i;
-    «lo_lim» = untouched float 1 25 e i;
-    «lo_lo_lim» = untouched float 1 27 e i;
-  }
+  ain-untouched e = λ i. ainBy (λ B N. untouched 1 N e i)
 
   tot-written : eqb block 2 ≡ true → totSettings (totAt h) number a ≡ totAt then
   unfolding totSettings totAt totBy
@@ -216,13 +196,7 @@ module _ (h : History Event) (block number a b : ℕ) where
 
   tot-untouched : eqb block 2 ≡ false → totAt h ≡ totAt then
   unfolding totAt totBy
-  tot-untouched e = λ i. record {
-    target = untouched code 2 5 e i;
-    «set_tot» = untouched code 2 13 e i;
-    «mode_tot» = untouched code 2 14 e i;
-    «fail_tot» = untouched code 2 15 e i;
-    «preset_tot» = untouched float 2 16 e i;
-  }
+  tot-untouched e = λ i. totBy (λ B N. untouched 2 N e i)
 
   ao-written : eqb block 3 ≡ true → aoSettings (aoAt h) number a b ≡ aoAt then
   unfolding aoSettings aoAt aoBy
@@ -238,15 +212,7 @@ module _ (h : History Event) (block number a b : ℕ) where
 
   ao-untouched : eqb block 3 ≡ false → aoAt h ≡ aoAt then
   unfolding aoAt aoBy
-  ao-untouched e = λ i. record {
-    target = untouched code 3 5 e i;
-    «pv_scale» = untouched scale 3 11 e i;
-    «out_scale» = untouched scale 3 38 e i;
-    «fsafe_time» = untouched code 3 23 e i;
-    «fsafe_type» = untouched code 3 24 e i;
-    «fsafe_value» = untouched float 3 25 e i;
-    «increase_close» = untouched code 3 36 e i;
-  }
+  ao-untouched e = λ i. aoBy (λ B N. untouched 3 N e i)
 
   -- block 0 has WRITE_LOCKING alone, so an accepted write to it is one of 18
   lock-wrote : (d : ℕ) → d ≡ stored h 0 18 .first → (eqb block 0 ≡ true → eqb number 18 ≡ true) → cond (eqb block 0) a d ≡ stored then 0 18 .first
@@ -254,7 +220,7 @@ module _ (h : History Event) (block number a b : ℕ) where
     where
       go : (p : Bool) → eqb block 0 ≡ p → cond p a d ≡ stored then 0 18 .first
       go true q = sym (ap (λ (x : Bool). cond x a (stored h 0 18 .first)) (only q)) ∙ written code 0 18 q
-      go false q = e ∙ untouched code 0 18 q
+      go false q = e ∙ ap code (untouched 0 18 q)
 
   -- ST_REV, for any block
   rev-step : (c : Bool) (n : ℕ) → revAfter c (n % 65536) ≡ cond c (n + 1) n % 65536
@@ -291,7 +257,7 @@ module _ (h : History Event) (block number a b : ℕ) where
     next : Device
     next = storedIn d block number a b
 
-    ain-state : next .ain .state ≡ cond (eqb block 1) (cond (eqb number 10) (operatedState (d .ain .state) (Rattle.device.specs.Stored.pairOf a b)) (d .ain .state)) (d .ain .state)
+    ain-state : next .ain .state ≡ cond (eqb block 1) (cond (eqb number 10) (operatedState (d .ain .state) (pairWritten a b)) (d .ain .state)) (d .ain .state)
     unfolding next storedIn ainWritten
     ain-state = cond-ap (λ (x : AinBlock). x .state) (eqb block 1) (ainWritten (d .ain) number a b) (d .ain)
 
@@ -299,15 +265,15 @@ module _ (h : History Event) (block number a b : ℕ) where
     unfolding next storedIn totWritten
     tot-state = cond-ap (λ (x : TotBlock). x .state) (eqb block 2) (totWritten (d .tot) number a b) (d .tot)
 
-    ao-state : next .ao .state ≡ cond (eqb block 3) (cond (eqb number 37) (operatedBy (d .ao .state) (Rattle.device.specs.Stored.pairOf a b)) (d .ao .state)) (d .ao .state)
+    ao-state : next .ao .state ≡ cond (eqb block 3) (cond (eqb number 37) (operatedBy (d .ao .state) (pairWritten a b)) (d .ao .state)) (d .ao .state)
     unfolding next storedIn aoWritten
     ao-state = cond-ap (λ (x : AoBlock). x .state) (eqb block 3) (aoWritten (d .ao) number a b) (d .ao)
 
     ain-still : {X : Type 0} (g : AinState → X) → ((st : AinState) (p : Pair) → g (operatedState st p) ≡ g st) → g (next .ain .state) ≡ g (d .ain .state)
-    ain-still g e = ap g ain-state ∙ still g (eqb block 1) (eqb number 10) (operatedState (d .ain .state) (Rattle.device.specs.Stored.pairOf a b)) (d .ain .state) (e (d .ain .state) (Rattle.device.specs.Stored.pairOf a b))
+    ain-still g e = ap g ain-state ∙ still g (eqb block 1) (eqb number 10) (operatedState (d .ain .state) (pairWritten a b)) (d .ain .state) (e (d .ain .state) (pairWritten a b))
 
     ao-still : {X : Type 0} (g : AoState → X) → ((st : AoState) (p : Pair) → g (operatedBy st p) ≡ g st) → g (next .ao .state) ≡ g (d .ao .state)
-    ao-still g e = ap g ao-state ∙ still g (eqb block 3) (eqb number 37) (operatedBy (d .ao .state) (Rattle.device.specs.Stored.pairOf a b)) (d .ao .state) (e (d .ao .state) (Rattle.device.specs.Stored.pairOf a b))
+    ao-still g e = ap g ao-state ∙ still g (eqb block 3) (eqb number 37) (operatedBy (d .ao .state) (pairWritten a b)) (d .ao .state) (e (d .ao .state) (pairWritten a b))
 
     total-wrote : next .tot .state .total ≡ Rattle.history.specs.Rules.total then
     unfolding Rattle.history.specs.Rules.total carried

@@ -1,14 +1,12 @@
 -- Points A to H compute; point I goes by the law that n further static writes add n to ST_REV, modulo 65,536. Assumes nothing.
 use Prim.Native.Nat.{ℕ, zero, suc, _+_, _%_}
 use native.Mathlib.Omega.{arith}
-use mathlib.Core.Path.{_≡_, refl, sym, ap, _∙_, subst}
-use mathlib.Core.Bool.{Bool, true, false, not, _&&_, _||_, cond}
-use lib.Dec.{eqb}
+use mathlib.Core.Path.{_≡_, refl, ap, _∙_}
+use mathlib.Core.Bool.{Bool, true}
 use lib.Ieee.{ofInt, ofBits, toBits, add, sub, mul, div, lt, le, eq, ne, toSigned, neg}
 use Rattle.numbers.specs.Whole as Whole
 use Rattle.scaling.specs.Scaling.{fractionOf, atFraction, allowedScale}
 use Rattle.wire.specs.Bytes.{pairOf}
-use Rattle.wire.specs.declared.Answer.the-variants.{Accepted}
 use Rattle.blocks.specs.Common.{actualMode, inputStatus}
 use Rattle.ain.specs.Scaling.{scaledOf, filtered}
 use Rattle.ain.specs.Alarm.{alarmStands, rises, falls, alarmsOf, alarmStatus}
@@ -20,7 +18,7 @@ use Rattle.parameters.specs.Refused.{ground}
 use Rattle.device.specs.Stored.{storedIn, ainWritten, ainSettings}
 use Rattle.device.specs.Factory.{factoryDevice, ainBy, totBy, aoBy}
 use Rattle.device.specs.Calls.{writeOf, tickOf}
-use Rattle.history.specs.Past.{History, start, _▷_, count, countSince, since, latest}
+use Rattle.history.specs.Past.{History, start, count, countSince, since, latest}
 use Rattle.history.specs.Calls.{after, reachedFrom, reached, Event, wrote}
 use Rattle.history.specs.Rules.{stored, standing, accepted, isMet, isStaticWrite, stRev, came, silence, ifs, isFailSafe, isUsableOn, isIfsOn}
 use Rattle.history.specs.Points.{again, Points}

@@ -1,15 +1,14 @@
 -- The loop of `replay`: it makes the calls that the bytes stand for, one after the other, and so keeps its promise. Assumes nothing.
-use Prim.Native.Nat.{ℕ, zero, suc, _+_, _-_, _*_, _<_, _≤_, _^_}
+use Prim.Native.Nat.{ℕ, zero, suc, _+_, _-_, _<_, _≤_, _^_}
 use native.Mathlib.Omega.{arith}
 use mathlib.Core.Path.{_≡_, refl, sym, ap, _∙_, subst}
-use mathlib.Core.Bool.{Bool, true, false, _&&_, cond, true≢false}
-use mathlib.Core.List.{List, [], _∷_}
+use mathlib.Core.Bool.{Bool, true, false, cond}
+use mathlib.Core.List.{List, []}
 use mathlib.Core.Option.{Option, none, some}
 use lib.Dec.{T, eqb, ltb, lt→ltb}
 use lib.Ieee.Fits.{and-i}
 use lib.ListN.{length, getD}
 use borrow.Author.Tests.{lt-ltb, le-ltb}
-use Rattle.wire.specs.Bytes.{wordOf}
 use Rattle.device.specs.declared.Device.{Device}
 use Rattle.device.specs.Factory.{factoryDevice}
 use Rattle.history.specs.declared.Step.{Step}

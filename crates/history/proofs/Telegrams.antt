@@ -4,11 +4,11 @@ use native.Mathlib.Omega.{arith}
 use mathlib.Core.Path.{_≡_, refl, sym, ap, _∙_, subst}
 use mathlib.Core.Bool.{Bool, true, false, not, _&&_, _||_, cond, true≢false}
 use mathlib.Core.List.{List}
-use mathlib.Core.Option.{Option, none, some}
-use lib.Dec.{T, eqb, ltb}
+use mathlib.Core.Option.{none, some}
+use lib.Dec.{eqb, ltb}
 use lib.Ieee.Scale.{finite}
 use lib.ListN.{length, getD}
-use borrow.Author.Tests.{eqb-true, eqb-false, ltb-true, ltb-false}
+use borrow.Author.Tests.{eqb-true, eqb-false, ltb-false}
 use Rattle.numbers.specs.Floats.{floatOf}
 use Rattle.wire.specs.declared.Pair.{Pair}
 use Rattle.wire.specs.declared.Received.{Received}
@@ -25,7 +25,7 @@ use Rattle.device.specs.declared.Device.{Device}
 use Rattle.device.specs.Calls.{telegramOf, warmStarted}
 use Rattle.history.specs.Past.{History, _▷_, count, countSince, since, latest, carried}
 use Rattle.history.specs.Calls.{Event, telegram, warmed}
-use Rattle.history.specs.Rules.{stored, ainAt, totAt, aoAt, stRev, filterValue, Alarm, hiHi, hi, lo, loLo, stands, raises, clears, rateValue, oldOut, total, came, setpoint, silence, ifs, isTick, isStart, pairOn, valueOn, holds, isUsable, isIfs, isUsableOn, isIfsOn}
+use Rattle.history.specs.Rules.{stored, ainAt, totAt, aoAt, stRev, filterValue, Alarm, hiHi, hi, lo, loLo, stands, raises, clears, rateValue, oldOut, total, came, setpoint, silence, ifs, isTick, isStart, pairOn, holds, isUsable, isIfs, isUsableOn, isIfsOn}
 use Rattle.history.proofs.Agrees.{inputAt, alarmsAt, Agrees, alarms-still, input-still}
 use Rattle.history.proofs.Truth.{and-true, and-false}
 

@@ -2,9 +2,9 @@
 use Prim.Native.Nat.{ℕ, _<_, _≤_, _^_}
 use native.Mathlib.Omega.{arith}
 use mathlib.Core.Path.{_≡_, refl, sym, ap, _∙_, subst}
-use mathlib.Core.Bool.{Bool, true, false, not, _&&_, _||_, cond, true≢false}
+use mathlib.Core.Bool.{Bool, true, false, _&&_, cond}
 use mathlib.Core.List.{List, [], _∷_}
-use lib.Dec.{T, eqb, ltb, ltb→lt}
+use lib.Dec.{T, eqb, ltb}
 use lib.Ieee.Fits.{and-l, and-r}
 use lib.ListN.{length, getD}
 use borrow.Author.Tests.{eqb-true, ltb-true, ltb-false}
@@ -22,17 +22,15 @@ use Rattle.parameters.specs.declared.Standing.{Standing}
 use Rattle.parameters.specs.declared.Entry.the-variants.{NoParameter, Parameter}
 use Rattle.parameters.specs.declared.Class.the-variants.{N}
 use Rattle.parameters.specs.declared.Allowed.the-variants.{Lock}
-use Rattle.parameters.specs.Table.{words, entryIn, entryOf}
+use Rattle.parameters.specs.Table.{entryIn, entryOf}
 use Rattle.parameters.specs.Table as Table
 use Rattle.parameters.specs.Refused.{ground, groundBy}
 use Rattle.device.specs.declared.Device.{Device}
-use Rattle.device.specs.Stored.{storedIn}
 use Rattle.device.specs.Factory.{ainBy, totBy, aoBy, factoryDevice}
 use Rattle.device.specs.Read.{readOf, wordsOf, ainWords, aoWords}
 use Rattle.device.specs.Calls.{standingOf, writeBy, writeOf, telegramOf}
 use Rattle.history.specs.Past.{History, start, _▷_, latest, Each}
-use Rattle.history.specs.Calls.{Call, tick, write, warmStart, Event, ticked, wrote, warmed, fitting, allFit, after, event, reachedFrom, traceFrom, reached, trace}
-use Rattle.history.specs.Calls as Calls
+use Rattle.history.specs.Calls.{Call, tick, write, warmStart, Event, wrote, fitting, allFit, after, event, reachedFrom, traceFrom, reached, trace}
 use Rattle.history.specs.Rules.{stored, standing, isAccepted, isMet, accepted, ainAt, totAt, aoAt}
 use Rattle.history.specs.Claim.{Tick, accepts, Claim}
 use Rattle.history.proofs.Sound.{Sound, sound-start, sound-write}

@@ -1,17 +1,15 @@
 -- Agreement with the rules over a tick, and what is claimed of the tick. Assumes nothing.
-use Prim.Native.Nat.{ℕ, _+_, _≤_, _^_, min}
+use Prim.Native.Nat.{ℕ, _+_, _≤_, min}
 use native.Mathlib.Omega.{arith}
-use mathlib.Core.Path.{_≡_, refl, sym, ap, _∙_, subst}
-use mathlib.Core.Bool.{Bool, true, false, not, _&&_, _||_, cond, true≢false}
-use mathlib.Core.Logic.{_⊎_, inl, inr}
-use lib.Dec.{T, eqb, eqb→eq, ltb, leb, leb→le}
+use mathlib.Core.Path.{_≡_, refl, sym, ap, _∙_}
+use mathlib.Core.Bool.{Bool, true, false, not, _&&_, _||_, cond}
+use lib.Dec.{T, eqb, eqb→eq, leb, leb→le}
 use lib.Ieee.Fits.{and-l}
-use lib.Ieee.{Float}
 use lib.Ieee.Scale.{finite}
 use Rattle.numbers.specs.Floats.{floatOf}
 use Rattle.wire.specs.declared.Pair.{Pair}
 use Rattle.blocks.specs.declared.Kept.{Kept}
-use Rattle.blocks.specs.Common.{outOfService, man, auto, rcas, actualMode, none, kept, good}
+use Rattle.blocks.specs.Common.{outOfService, auto, rcas, actualMode, none, kept, good}
 use Rattle.ain.specs.declared.Settings.{Settings as AinSettings}
 use Rattle.ain.specs.declared.State.{State as AinState}
 use Rattle.ain.specs.declared.Alarms.{Alarms}
@@ -27,10 +25,10 @@ use Rattle.ao.specs.declared.Input.{Input as Setpoint}
 use Rattle.ao.specs.FailSafe.{GivenOf, byMode, caseOf, following, failSafeActs, failSafeCase, silenceAfter, afterTick}
 use Rattle.ao.specs.State.{inputOf}
 use Rattle.ao.specs.Tick as Ao
-use Rattle.ao.specs.Laws.{stopped-decides, stopped-counts}
+use Rattle.ao.specs.Laws.{stopped-decides}
 use Rattle.parameters.specs.declared.Words.{Words}
-use Rattle.parameters.specs.declared.Allowed.the-variants.{Mode, UpTo}
-use Rattle.parameters.specs.Table.{words, physical, entryIn, entryOf}
+use Rattle.parameters.specs.declared.Allowed.the-variants.{Mode}
+use Rattle.parameters.specs.Table.{words, entryIn, entryOf}
 use Rattle.parameters.specs.Table as Table
 use Rattle.parameters.specs.Words.{allowsOf}
 use Rattle.device.specs.declared.Device.{Device}
@@ -40,9 +38,9 @@ use Rattle.history.specs.Past.{History, _▷_, count, countSince, since,
 use Rattle.history.specs.Calls.{Event, ticked}
 use Rattle.history.specs.Rules.{stored, ainAt, totAt, aoAt, stRev, modeAt, filterValue, Alarm, hiHi, hi, lo, loLo, stands, raises, clears, rateValue, totalBy, total, oldOut, came, setpoint, silence, ifs, isFailSafe, gives, inputIn, isUsableOn}
 use Rattle.history.specs.Claim.{TickClaim, follows}
-use Rattle.history.proofs.Agrees.{inputAt, alarmsAt, Agrees, not-usable, came-same, ifs-same, setpoint-same}
-use Rattle.history.proofs.Sound.{Sound, sound}
-use Rattle.history.proofs.Ticks.{IsMode, IsAoMode, ao-target, target, mode, ao-mode, ain-filter, ain-alarms, tot-rate, tot-total}
+use Rattle.history.proofs.Agrees.{inputAt, alarmsAt, Agrees, came-same, ifs-same, setpoint-same}
+use Rattle.history.proofs.Sound.{Sound}
+use Rattle.history.proofs.Ticks.{IsMode, target, mode, ain-filter, ain-alarms, tot-rate, tot-total}
 
 -- ---- what stands at the tick
 

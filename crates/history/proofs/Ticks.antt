@@ -1,29 +1,24 @@
 -- What a tick leaves in each block, by its actual mode, in the terms of the history rules. Assumes nothing.
-use Prim.Native.Nat.{ℕ, _+_, _≤_, min}
+use Prim.Native.Nat.{ℕ, _≤_}
 use native.Mathlib.Omega.{arith}
-use mathlib.Core.Path.{_≡_, refl, sym, ap, _∙_, subst}
-use mathlib.Core.Bool.{Bool, true, false, not, _&&_, _||_, cond, true≢false}
+use mathlib.Core.Path.{_≡_, refl, subst}
+use mathlib.Core.Bool.{Bool, true, false, _&&_, _||_, cond}
 use mathlib.Core.Logic.{_⊎_, inl, inr}
-use lib.Dec.{T, eqb, eqb→eq, leb, leb→le}
+use lib.Dec.{T, eqb, eqb→eq}
 use lib.Ieee.Fits.{and-l}
-use lib.IntN.{ℤ, pos}
-use lib.Ieee.{Float}
 use Rattle.numbers.specs.Floats.{floatOf}
-use Rattle.wire.specs.declared.Pair.{Pair}
-use Rattle.blocks.specs.declared.Kept.{Kept}
 use Rattle.blocks.specs.declared.Input.{Input}
 use Rattle.blocks.specs.declared.Input.the-variants.{Usable, Bad}
 use Rattle.blocks.specs.Common.{outOfService, man, auto, rcas, actualMode, none, kept}
-use Rattle.parameters.specs.declared.Allowed.the-variants.{Mode, UpTo}
+use Rattle.parameters.specs.declared.Allowed.the-variants.{Mode}
 use Rattle.parameters.specs.Words.{allowsOf}
 use Rattle.ain.specs.declared.Settings.{Settings as AinSettings}
 use Rattle.ain.specs.declared.State.{State as AinState}
-use Rattle.ain.specs.declared.Alarms.{Alarms}
 use Rattle.ain.specs.Alarm.{alarmsOf, noAlarms}
 use Rattle.ain.specs.Tick as Ain
 use Rattle.tot.specs.declared.Settings.{Settings as TotSettings}
 use Rattle.tot.specs.declared.State.{State as TotState}
-use Rattle.tot.specs.Total.{nextTotal, sumOf, thousandthsOf}
+use Rattle.tot.specs.Total.{nextTotal}
 use Rattle.tot.specs.Tick as Tot
 use Rattle.history.specs.Rules.{whereUsable, totalBy}
 

@@ -8,7 +8,6 @@ use lib.Dec.{eqb, ltb}
 use lib.ListN.{length, getD, take, drop}
 use Rattle.wire.specs.declared.Pair.{Pair}
 use Rattle.wire.specs.Bytes.{wordOf}
-use Rattle.device.specs.declared.Device.{Device}
 use Rattle.device.specs.Factory.{factoryDevice}
 use Rattle.history.specs.declared.Step.{Step}
 use Rattle.history.specs.declared.Step.the-variants.{WarmStart, Tick, Write, Telegram, Malformed}

@@ -1,10 +1,10 @@
 -- What the past-time words mean: there is a place in the history such that .. Assumes nothing.
 use Prim.Native.Nat.{ℕ, _+_}
-use mathlib.Core.Path.{_≡_, refl, sym, ap, _∙_, subst}
-use mathlib.Core.Bool.{Bool, true, false, not, _&&_, _||_, cond, true≢false}
+use mathlib.Core.Path.{_≡_, refl, sym, ap, _∙_}
+use mathlib.Core.Bool.{Bool, true, false, not, _&&_, _||_, true≢false}
 use mathlib.Core.Logic.{_⊎_, inl, inr}
 use mathlib.Core.Option.{Option, none, some}
-use Rattle.history.specs.Past.{History, start, _▷_, countSince, since, told, latest}
+use Rattle.history.specs.Past.{History, start, _▷_, countSince, since, latest}
 
 module _ {E : Type 0} where
   -- the history h goes on from p, and each event after p passes, by what was before it

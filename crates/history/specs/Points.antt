@@ -1,12 +1,11 @@
 -- Paper 01's "Points on the curve", A to I, over the rules themselves. Assumes nothing.
-use Prim.Native.Nat.{ℕ, zero, suc, _+_, _%_}
+use Prim.Native.Nat.{ℕ, zero, suc}
 use mathlib.Core.Path.{_≡_}
 use mathlib.Core.Bool.{Bool, true, false}
-use mathlib.Core.List.{List, [], _∷_}
-use lib.IntN.{ℤ, pos, negsuc}
+use mathlib.Core.List.{[], _∷_}
+use lib.IntN.{pos, negsuc}
 use lib.Ieee.{Float, binary32, ofInt, div}
 use Rattle.numbers.specs.Floats.{floatOf}
-use Rattle.scaling.specs.declared.Scale.{Scale}
 use Rattle.wire.specs.declared.Pair.{Pair}
 use Rattle.wire.specs.Status.{qualityOf, subStatusOf, limitsOf}
 use Rattle.wire.specs.Bytes.{fiveBytes}
@@ -17,7 +16,7 @@ use Rattle.tot.specs.Total.{incrementOf, valueGiven}
 use Rattle.ao.specs.declared.Order.{Order}
 use Rattle.parameters.specs.declared.Words.{Words}
 use Rattle.history.specs.Past.{History, start, _▷_}
-use Rattle.history.specs.Calls.{Call, tick, write, reached, Event, ticked, telegram, wrote}
+use Rattle.history.specs.Calls.{tick, write, reached, Event, ticked, telegram, wrote}
 use Rattle.history.specs.Rules.{isFailSafe, accepted, stRev}
 
 -- a whole number as a float

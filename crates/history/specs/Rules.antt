@@ -2,7 +2,6 @@
 -- Assumes nothing.
 use Prim.Native.Nat.{ℕ, _+_, _*_, _%_}
 use mathlib.Core.Bool.{Bool, true, false, not, _&&_, _||_, cond}
-use mathlib.Core.List.{List}
 use mathlib.Core.Option.{Option, none, some}
 use lib.Dec.{eqb, ltb}
 use lib.IntN.{ℤ, pos}
@@ -27,8 +26,7 @@ use Rattle.tot.specs.declared.Settings.{Settings as TotSettings}
 use Rattle.tot.specs.Total.{sumOf, thousandthsOf}
 use Rattle.tot.specs.Tick.{tickAdds, tickRate}
 use Rattle.ao.specs.declared.Settings.{Settings as AoSettings}
-use Rattle.ao.specs.declared.Order.{Order}
-use Rattle.ao.specs.FailSafe.{Case, following, GivenOf, failSafeCase}
+use Rattle.ao.specs.FailSafe.{following, GivenOf, failSafeCase}
 use Rattle.ao.specs.Tick.{givenBy}
 use Rattle.parameters.specs.declared.Words.{Words}
 use Rattle.parameters.specs.declared.Standing.{Standing}
@@ -36,7 +34,7 @@ use Rattle.parameters.specs.Table.{words, defaultOf, isStatic}
 use Rattle.parameters.specs.Refused.{ground}
 use Rattle.device.specs.Factory.{Valuation, ainBy, totBy, aoBy}
 use Rattle.device.specs.Read.{bit}
-use Rattle.history.specs.Past.{History, start, _▷_, count, countSince, since, latest, told, carried}
+use Rattle.history.specs.Past.{History, start, _▷_, count, countSince, since, latest, carried}
 use Rattle.history.specs.Calls.{Event, ticked, telegram, wrote, warmed}
 
 -- ---- the kinds of events

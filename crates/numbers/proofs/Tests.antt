@@ -1,7 +1,7 @@
 -- What the code's tests of a float say: the infinities and the NaN as it makes them, and comparisons with the infinities.
 -- Assumes nothing.
 use mathlib.Core.Path.{_≡_, refl, sym, _∙_, subst}
-use mathlib.Core.Bool.{Bool, true, false, not, _&&_, true≢false}
+use mathlib.Core.Bool.{true, false, not, _&&_, true≢false}
 use Prim.Native.Nat.{ℕ, _%_}
 use lib.Dec.{T, ltb}
 use lib.Ieee.{Float, nan, inf, fin, binary32, ofBits, neg, div, lt, ne, isNan}

@@ -1,10 +1,10 @@
 -- Laws of singles that callers cite: bits written and read back, and that no operation leads from a value that is not finite to one that is.
 -- Assumes nothing.
-use mathlib.Core.Path.{_≡_, refl, sym, ap, _∙_, subst}
-use mathlib.Core.Bool.{Bool, true, false, not, _&&_, _||_, cond, Bool·beq, true≢false}
+use mathlib.Core.Path.{_≡_, refl, sym, subst}
+use mathlib.Core.Bool.{Bool, true, false, not, cond, Bool·beq, true≢false}
 use Prim.Native.Nat.{ℕ, _<_, _^_}
 use lib.Dec.{T, eqb}
-use lib.Ieee.{Float, nan, inf, fin, Format, binary32, ofBits, toBits, fits, isNan, le, neg, add, sub, mul, div, unlike}
+use lib.Ieee.{Float, nan, inf, fin, Format, binary32, fits, isNan, le, neg, add, sub, mul, div, unlike}
 use lib.Ieee.Bits.{toBits-ofBits, ofBits-toBits}
 use lib.Ieee.Scale.{finite}
 use Rattle.numbers.specs.Floats.{floatOf, bitsOf, finiteOr, within}

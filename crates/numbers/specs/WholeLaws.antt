@@ -3,7 +3,7 @@
 use mathlib.Core.Path.{_≡_, refl, sym, ap, _∙_, subst}
 use mathlib.Core.Bool.{Bool, true, false, not, cond, true≢false}
 use Prim.Native.Nat.{ℕ, zero, suc, _+_, _-_, _*_, _/_, _^_, _≤_, _<_, min, zero-le}
-use native.Mathlib.Nat.{le-trans, le-of-eq, lt-of-lt-of-le, lt-of-le-of-lt, zero-lt-suc, mul-one, mul-assoc, div-one, div-mul-le-self, le-div-iff-mul-le, mul-pos, not-le-of-lt, lt-irrefl, lt-of-not-le, one-mul, zero-mul}
+use native.Mathlib.Nat.{le-trans, le-of-eq, lt-of-lt-of-le, lt-of-le-of-lt, zero-lt-suc, mul-one, mul-assoc, div-one, le-div-iff-mul-le, mul-pos, not-le-of-lt, lt-irrefl, lt-of-not-le, one-mul, zero-mul}
 use native.Mathlib.Omega.{arith}
 use lib.Dec.{T, ltb, le→leb, leb→le, ltb→lt, nltb→le, lit≤, lit<}
 use lib.Pow.{pow-add, pow-pos, pow-mono, shl-lt}
@@ -142,11 +142,6 @@ cut-within (fin false m e) = omega arith
 
 -- ---- the highest bits
 
--- clearing bits never adds
-pub highest-le : (w m : ℕ) → highestBits w m ≤ m
-unfolding highestBits
-highest-le w m = div-mul-le-self m (2 ^ (size m - w))
-
 -- a number of no more than w bits keeps them all
 pub highest-small : (w m : ℕ) → m < 2 ^ w → highestBits w m ≡ m
 unfolding highestBits
@@ -242,9 +237,6 @@ value-exact (negsuc m) h = go (highest24 (suc m)) (highest-pos 24 (suc m) (lit< 
     go : (n : ℕ) → 0 < n → HasValue (round binary32 true n 1) true n 1 → HasValue (ofInt binary32 (negℤ (pos n))) true n 1
     go zero p v = absurd (lt-irrefl 0 p)
     go (suc n) p v = v
-
-pub value-of-finite : (z : ℤ) → natAbs z ≤ 2 ^ 63 → T (finite (ofInt binary32 (highest24ℤ z)))
-value-of-finite z h = value-finite (ofInt binary32 (highest24ℤ z)) (not (nonNeg z)) (highest24 (natAbs z)) 1 (value-exact z h)
 
 -- ---- a rounded fraction, cut
 

@@ -1,6 +1,6 @@
 -- Which words a parameter takes, from paper 01, "Parameters". Assumes nothing.
 use Prim.Native.Nat.{ℕ}
-use mathlib.Core.Bool.{Bool, true, false, _&&_, _||_}
+use mathlib.Core.Bool.{Bool, false, _&&_, _||_}
 use lib.Dec.{eqb, leb}
 use lib.IntN.{pos}
 use lib.Ieee.{binary32, ofInt, le}

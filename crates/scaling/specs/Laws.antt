@@ -1,7 +1,7 @@
 -- Laws of the scaling that the blocks cite. Assumes nothing.
 use mathlib.Core.Path.{_≡_}
 use mathlib.Core.Bool.{false}
-use lib.Ieee.{Float, binary32, sub, mul, div}
+use lib.Ieee.{Float, binary32, sub, mul}
 use lib.Ieee.Scale.{finite}
 use Rattle.numbers.specs.FloatLaws.{add-left, sub-left, mul-left, div-left}
 use Rattle.scaling.specs.declared.Scale.{Scale}

@@ -8,7 +8,7 @@ use mathlib.Core.List.{List, [], _∷_, _++_, append-nil, append-assoc}
 use lib.ListN.{length, getD, take, drop, set, replicate, drop-of-length-le, length-append, take-append-drop, length-drop}
 use lib.Seq.{drop-cons, take-suc, take-suc-set, take-all, take-at, drop-at, drop-drop, length-take-le, append-snoc, getD-drop}
 use lib.Dec.{leb, eqb, ltb}
-use borrow.Author.Tests.{eq-eqb, ne-eqb, eqb-true, eqb-false, ltb-true, ltb-false, leb-true, le-leb}
+use borrow.Author.Tests.{ne-eqb, eqb-true, eqb-false, ltb-true, ltb-false, leb-true, le-leb}
 use Rattle.text.specs.declared.Number.{Number}
 use Rattle.text.specs.declared.Number.the-variants.{Value, Not}
 use Rattle.text.specs.Place.{replaced, placeAfter, bytesPut}

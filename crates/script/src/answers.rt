@@ -1,8 +1,7 @@
 // The line that answers a call, put into a buffer.
 ghost use mathlib.Core.Path.{_≡_};
-ghost use mathlib.Core.List.{[], _∷_};
+ghost use mathlib.Core.List.{[]};
 ghost use Rattle.script.specs.Answer.{placeAfterAll, allPut, answerParts, rowParts};
-ghost use Rattle.text.specs.Digits.{hexWord, decimal, signed};
 use crate::Answer;
 
 // Puts a row of bytes, each after a space.

@@ -5,9 +5,6 @@ use borrow.Author.Needs.{needs}
 use Rattle.ain.proofs.alarm_status.Statement.{statement}
 use Rattle.ain.proofs.alarm_status.Tie as tie
 
-quality-requires : tie.Need-quality-requires
-quality-requires c κs = search needs
-
 returns : tie.Need-returns
 unfolding alarmStatus
 returns c = rw (← c .before .quality .ensures, c .if1 .taken)
@@ -34,4 +31,4 @@ returns-6 c = rw (← c .before .before .before .before .before .quality .ensure
 
 pub alarm-status-spec : {M : Type 1} → statement M
 alarm-status-spec =
-    tie.close (tie.spec quality-requires returns returns-2 returns-3 returns-4 returns-5 returns-6)
+    tie.close (tie.spec (λ c κs. search needs) returns returns-2 returns-3 returns-4 returns-5 returns-6)

@@ -5,15 +5,9 @@ use borrow.Author.Needs.{needs}
 use Rattle.ain.proofs.fail_safe.Statement.{statement}
 use Rattle.ain.proofs.fail_safe.Tie as tie
 
-bits-of-requires : tie.Need-bits-of-requires
-bits-of-requires c κs = search needs
-
 returns : tie.Need-returns
 unfolding failSafeOut
 returns c = rw (c .bits-of .ensures, c .before .if1 .taken)
-
-bits-of-requires-2 : tie.Need-bits-of-requires-2
-bits-of-requires-2 c κs = search needs
 
 returns-2 : tie.Need-returns-2
 unfolding failSafeOut
@@ -22,12 +16,6 @@ returns-2 c = rw (c .bits-of2 .ensures, c .before .before .before .if1 .left, c 
 returns-3 : tie.Need-returns-3
 unfolding failSafeOut
 returns-3 c = rw (c .before .before .if1 .left, c .before .if2 .taken, c .if3 .left)
-
-is-finite-requires : tie.Need-is-finite-requires
-is-finite-requires c κs = search needs
-
-bits-of-requires-3 : tie.Need-bits-of-requires-3
-bits-of-requires-3 c κs = search needs
 
 returns-4 : tie.Need-returns-4
 unfolding failSafeOut
@@ -41,12 +29,12 @@ pub fail-safe-spec : {M : Type 1} → statement M
 fail-safe-spec =
     tie.close
     (tie.spec
-    bits-of-requires
+    (λ c κs. search needs)
     returns
-    bits-of-requires-2
+    (λ c κs. search needs)
     returns-2
     returns-3
-    is-finite-requires
-    bits-of-requires-3
+    (λ c κs. search needs)
+    (λ c κs. search needs)
     returns-4
     returns-5)

@@ -4,18 +4,9 @@ use borrow.Author.Needs.{needs}
 use Rattle.ain.proofs.fresh.Statement.{statement}
 use Rattle.ain.proofs.fresh.Tie as tie
 
-nothing-requires : tie.Need-nothing-requires
-nothing-requires c κs = search needs
-
-fresh-operator-requires : tie.Need-fresh-operator-requires
-fresh-operator-requires c κs = search needs
-
-no-alarms-requires : tie.Need-no-alarms-requires
-no-alarms-requires c κs = search needs
-
 returns : tie.Need-returns
 returns c = rw (c .no-alarms .ensures, c .before .fresh-operator .ensures, c .before .before .nothing .ensures)
 
 pub fresh-spec : {M : Type 1} → statement M
 fresh-spec =
-    tie.close (tie.spec nothing-requires fresh-operator-requires no-alarms-requires returns)
+    tie.close (tie.spec (λ c κs. search needs) (λ c κs. search needs) (λ c κs. search needs) returns)

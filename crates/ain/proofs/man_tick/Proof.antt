@@ -5,18 +5,9 @@ use borrow.Author.Needs.{needs}
 use Rattle.ain.proofs.man_tick.Statement.{statement}
 use Rattle.ain.proofs.man_tick.Tie as tie
 
-float-of-requires : tie.Need-float-of-requires
-float-of-requires c κs = search needs
-
-all-alarms-requires : tie.Need-all-alarms-requires
-all-alarms-requires c κs = search needs
-
-nothing-requires : tie.Need-nothing-requires
-nothing-requires c κs = search needs
-
 returns : tie.Need-returns
 unfolding manTick
 returns c = rw (c .before .nothing .ensures, c .before .before .all-alarms .ensures, c .before .before .before .float-of .ensures)
 
 pub man-tick-spec : {M : Type 1} → statement M
-man-tick-spec = tie.close (tie.spec float-of-requires all-alarms-requires nothing-requires returns)
+man-tick-spec = tie.close (tie.spec (λ c κs. search needs) (λ c κs. search needs) (λ c κs. search needs) returns)

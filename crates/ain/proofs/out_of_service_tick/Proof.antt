@@ -5,19 +5,10 @@ use borrow.Author.Needs.{needs}
 use Rattle.ain.proofs.out_of_service_tick.Statement.{statement}
 use Rattle.ain.proofs.out_of_service_tick.Tie as tie
 
-held-requires : tie.Need-held-requires
-held-requires c κs = search needs
-
-nothing-requires : tie.Need-nothing-requires
-nothing-requires c κs = search needs
-
-no-alarms-requires : tie.Need-no-alarms-requires
-no-alarms-requires c κs = search needs
-
 returns : tie.Need-returns
 unfolding outOfServiceTick
 returns c = rw (c .no-alarms .ensures, c .before .before .before .nothing .ensures, c .before .before .before .before .held .ensures)
 
 pub out-of-service-tick-spec : {M : Type 1} → statement M
 out-of-service-tick-spec =
-    tie.close (tie.spec held-requires nothing-requires no-alarms-requires returns)
+    tie.close (tie.spec (λ c κs. search needs) (λ c κs. search needs) (λ c κs. search needs) returns)

@@ -5,15 +5,9 @@ use borrow.Author.Needs.{needs}
 use Rattle.ain.proofs.scaled.Statement.{statement}
 use Rattle.ain.proofs.scaled.Tie as tie
 
-fraction-requires : tie.Need-fraction-requires
-fraction-requires c κs = search needs
-
-at-fraction-requires : tie.Need-at-fraction-requires
-at-fraction-requires c κs = search needs
-
 returns : tie.Need-returns
 unfolding scaledOf
 returns c = rw (c .at-fraction .ensures, c .before .fraction .ensures)
 
 pub scaled-spec : {M : Type 1} → statement M
-scaled-spec = tie.close (tie.spec fraction-requires at-fraction-requires returns)
+scaled-spec = tie.close (tie.spec (λ c κs. search needs) (λ c κs. search needs) returns)

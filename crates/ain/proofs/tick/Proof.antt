@@ -5,25 +5,13 @@ use borrow.Author.Needs.{needs}
 use Rattle.ain.proofs.tick.Statement.{statement}
 use Rattle.ain.proofs.tick.Tie as tie
 
-actual-mode-requires : tie.Need-actual-mode-requires
-actual-mode-requires c κs = search needs
-
-out-of-service-tick-requires : tie.Need-out-of-service-tick-requires
-out-of-service-tick-requires c κs = search needs
-
 returns : tie.Need-returns
 unfolding tickOf tickBy
 returns c = rw (c .out-of-service-tick .ensures, ← c .before .before .actual-mode .ensures, c .before .if1 .taken)
 
-man-tick-requires : tie.Need-man-tick-requires
-man-tick-requires c κs = search needs
-
 returns-2 : tie.Need-returns-2
 unfolding tickOf tickBy
 returns-2 c = rw (c .man-tick .ensures, ← c .before .before .before .actual-mode .ensures, c .before .before .if1 .left, c .before .if2 .taken)
-
-auto-tick-requires : tie.Need-auto-tick-requires
-auto-tick-requires c κs = search needs
 
 returns-3 : tie.Need-returns-3
 unfolding tickOf tickBy
@@ -33,10 +21,10 @@ pub tick-spec : {M : Type 1} → statement M
 tick-spec =
     tie.close
     (tie.spec
-    actual-mode-requires
-    out-of-service-tick-requires
+    (λ c κs. search needs)
+    (λ c κs. search needs)
     returns
-    man-tick-requires
+    (λ c κs. search needs)
     returns-2
-    auto-tick-requires
+    (λ c κs. search needs)
     returns-3)

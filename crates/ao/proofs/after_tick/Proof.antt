@@ -5,12 +5,9 @@ use borrow.Author.Needs.{needs}
 use Rattle.ao.proofs.after_tick.Statement.{statement}
 use Rattle.ao.proofs.after_tick.Tie as tie
 
-silence-after-requires : tie.Need-silence-after-requires
-silence-after-requires c κs = search needs
-
 returns : tie.Need-returns
 unfolding afterTick
 returns c = rw (c .silence-after .ensures)
 
 pub after-tick-spec : {M : Type 1} → statement M
-after-tick-spec = tie.close (tie.spec silence-after-requires returns)
+after-tick-spec = tie.close (tie.spec (λ c κs. search needs) returns)

@@ -4,11 +4,8 @@ use borrow.Author.Needs.{needs}
 use Rattle.ao.proofs.at_position.Statement.{statement}
 use Rattle.ao.proofs.at_position.Tie as tie
 
-float-of-requires : tie.Need-float-of-requires
-float-of-requires c κs = search needs
-
 returns : tie.Need-returns
 returns c = rw (c .float-of .ensures)
 
 pub at-position-spec : {M : Type 1} → statement M
-at-position-spec = tie.close (tie.spec float-of-requires returns)
+at-position-spec = tie.close (tie.spec (λ c κs. search needs) returns)

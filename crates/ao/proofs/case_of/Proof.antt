@@ -5,12 +5,6 @@ use borrow.Author.Needs.{needs}
 use Rattle.ao.proofs.case_of.Statement.{statement}
 use Rattle.ao.proofs.case_of.Tie as tie
 
-fail-safe-acts-requires : tie.Need-fail-safe-acts-requires
-fail-safe-acts-requires c κs = search needs
-
-fail-safe-case-requires : tie.Need-fail-safe-case-requires
-fail-safe-case-requires c κs = search needs
-
 returns : tie.Need-returns
 unfolding caseOf
 returns c = rw (c .fail-safe-case .ensures, ← c .before .before .fail-safe-acts .ensures, c .before .if1 .taken)
@@ -20,4 +14,4 @@ unfolding caseOf
 returns-2 c = rw (← c .before .fail-safe-acts .ensures, c .if1 .left)
 
 pub case-of-spec : {M : Type 1} → statement M
-case-of-spec = tie.close (tie.spec fail-safe-acts-requires fail-safe-case-requires returns returns-2)
+case-of-spec = tie.close (tie.spec (λ c κs. search needs) (λ c κs. search needs) returns returns-2)

@@ -5,12 +5,6 @@ use borrow.Author.Needs.{needs}
 use Rattle.ao.proofs.class_of.Statement.{statement}
 use Rattle.ao.proofs.class_of.Tie as tie
 
-quality-requires : tie.Need-quality-requires
-quality-requires c κs = search needs
-
-sub-status-requires : tie.Need-sub-status-requires
-sub-status-requires c κs = search needs
-
 returns : tie.Need-returns
 unfolding classOf
 returns c = rw (← c .before .before .before .quality .ensures, ← c .before .before .sub-status .ensures, c .before .if1 .taken, c .if2 .taken)
@@ -25,4 +19,4 @@ returns-3 c = rw (← c .before .before .quality .ensures, c .if1 .left)
 
 pub class-of-spec : {M : Type 1} → statement M
 class-of-spec =
-    tie.close (tie.spec quality-requires sub-status-requires returns returns-2 returns-3)
+    tie.close (tie.spec (λ c κs. search needs) (λ c κs. search needs) returns returns-2 returns-3)

@@ -5,12 +5,9 @@ use borrow.Author.Needs.{needs}
 use Rattle.ao.proofs.fresh.Statement.{statement}
 use Rattle.ao.proofs.fresh.Tie as tie
 
-start-requires : tie.Need-start-requires
-start-requires c κs = search needs
-
 returns : tie.Need-returns
 unfolding freshState
 returns c = c .start .ensures
 
 pub fresh-spec : {M : Type 1} → statement M
-fresh-spec = tie.close (tie.spec start-requires returns)
+fresh-spec = tie.close (tie.spec (λ c κs. search needs) returns)

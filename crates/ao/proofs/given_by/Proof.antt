@@ -6,32 +6,8 @@ use borrow.Author.Needs.{needs}
 use Rattle.ao.proofs.given_by.Statement.{statement}
 use Rattle.ao.proofs.given_by.Tie as tie
 
-enum-known-case : tie.Need-enum-known-case
-enum-known-case c = search needs
-
-scaled-or-requires : tie.Need-scaled-or-requires
-scaled-or-requires c κs = search needs
-
-enum-known-case-2 : tie.Need-enum-known-case-2
-enum-known-case-2 c = search needs
-
-scaled-or-requires-2 : tie.Need-scaled-or-requires-2
-scaled-or-requires-2 c κs = search needs
-
-enum-known-case-3 : tie.Need-enum-known-case-3
-enum-known-case-3 c = search needs
-
-scaled-or-requires-3 : tie.Need-scaled-or-requires-3
-scaled-or-requires-3 c κs = search needs
-
 enum-told : tie.Need-enum-told
 enum-told c = search needs
-
-at-position-requires : tie.Need-at-position-requires
-at-position-requires c κs = search needs
-
-enum-told-2 : tie.Need-enum-told-2
-enum-told-2 c = search needs
 
 returns : tie.Need-returns
 unfolding givenBy leadsTo
@@ -57,15 +33,15 @@ pub given-by-spec : {M : Type 1} → statement M
 given-by-spec =
     tie.close
     (tie.spec
-    enum-known-case
-    scaled-or-requires
-    enum-known-case-2
-    scaled-or-requires-2
-    enum-known-case-3
-    scaled-or-requires-3
+    (λ c. search needs)
+    (λ c κs. search needs)
+    (λ c. search needs)
+    (λ c κs. search needs)
+    (λ c. search needs)
+    (λ c κs. search needs)
     enum-told
-    at-position-requires
-    enum-told-2
+    (λ c κs. search needs)
+    (λ c. search needs)
     returns
     returns-2
     returns-3

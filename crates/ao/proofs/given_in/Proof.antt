@@ -10,22 +10,13 @@ returns : tie.Need-returns
 unfolding givenIn byMode
 returns c = rw (c .if1 .taken)
 
-at-position-requires : tie.Need-at-position-requires
-at-position-requires c κs = search needs
-
 returns-2 : tie.Need-returns-2
 unfolding givenIn byMode
 returns-2 c = rw (c .at-position .ensures, c .before .before .if1 .left, c .before .if2 .taken)
-
-case-in-requires : tie.Need-case-in-requires
-case-in-requires c κs = search needs
-
-given-by-requires : tie.Need-given-by-requires
-given-by-requires c κs = search needs
 
 returns-3 : tie.Need-returns-3
 unfolding givenIn byMode givenByInput
 returns-3 c = rw (c .given-by .ensures, c .before .case-in .ensures, c .before .before .before .if1 .left, c .before .before .if2 .left)
 
 pub given-in-spec : {M : Type 1} → statement M
-given-in-spec = tie.close (tie.spec returns at-position-requires returns-2 case-in-requires given-by-requires returns-3)
+given-in-spec = tie.close (tie.spec returns (λ c κs. search needs) returns-2 (λ c κs. search needs) (λ c κs. search needs) returns-3)

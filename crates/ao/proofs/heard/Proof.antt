@@ -6,27 +6,12 @@ use borrow.Author.Needs.{needs}
 use Rattle.ao.proofs.heard.Statement.{statement}
 use Rattle.ao.proofs.heard.Tie as tie
 
-float-of-requires : tie.Need-float-of-requires
-float-of-requires c κs = search needs
-
-is-finite-requires : tie.Need-is-finite-requires
-is-finite-requires c κs = search needs
-
-class-of-requires : tie.Need-class-of-requires
-class-of-requires c κs = search needs
-
 enum-told : tie.Need-enum-told
 enum-told c = search needs
 
 returns : tie.Need-returns
 unfolding inputAfter afterTelegram usable initiates
 returns c = rw (← c .before .before .before .before .before .float-of .ensures, ← c .before .before .before .before .is-finite .ensures, ← c .before .before .before .class-of .ensures, c .before .enum-told .given .1, c .if1 .taken)
-
-enum-told-2 : tie.Need-enum-told-2
-enum-told-2 c = search needs
-
-enum-told-3 : tie.Need-enum-told-3
-enum-told-3 c = search needs
 
 returns-2 : tie.Need-returns-2
 unfolding inputAfter afterTelegram usable initiates
@@ -44,13 +29,13 @@ pub heard-spec : {M : Type 1} → statement M
 heard-spec =
     tie.close
     (tie.spec
-    float-of-requires
-    is-finite-requires
-    class-of-requires
+    (λ c κs. search needs)
+    (λ c κs. search needs)
+    (λ c κs. search needs)
     enum-told
     returns
-    enum-told-2
-    enum-told-3
+    (λ c. search needs)
+    (λ c. search needs)
     returns-2
     returns-3
     returns-4)

@@ -5,24 +5,9 @@ use borrow.Author.Needs.{needs}
 use Rattle.ao.proofs.scaled_or.Statement.{statement}
 use Rattle.ao.proofs.scaled_or.Tie as tie
 
-scaled-out-requires : tie.Need-scaled-out-requires
-scaled-out-requires c κs = search needs
-
-is-finite-requires : tie.Need-is-finite-requires
-is-finite-requires c κs = search needs
-
-bits-of-requires : tie.Need-bits-of-requires
-bits-of-requires c κs = search needs
-
-at-position-requires : tie.Need-at-position-requires
-at-position-requires c κs = search needs
-
 returns : tie.Need-returns
 unfolding outOf
 returns c = rw (c .at-position .ensures, c .before .bits-of .ensures, ← c .before .before .before .before .scaled-out .ensures, ← c .before .before .before .is-finite .ensures, c .before .before .if1 .taken)
-
-at-position-requires-2 : tie.Need-at-position-requires-2
-at-position-requires-2 c κs = search needs
 
 returns-2 : tie.Need-returns-2
 unfolding outOf
@@ -32,10 +17,10 @@ pub scaled-or-spec : {M : Type 1} → statement M
 scaled-or-spec =
     tie.close
     (tie.spec
-    scaled-out-requires
-    is-finite-requires
-    bits-of-requires
-    at-position-requires
+    (λ c κs. search needs)
+    (λ c κs. search needs)
+    (λ c κs. search needs)
+    (λ c κs. search needs)
     returns
-    at-position-requires-2
+    (λ c κs. search needs)
     returns-2)

@@ -6,9 +6,6 @@ use borrow.Author.Needs.{needs}
 use Rattle.ao.proofs.silence_after.Statement.{statement}
 use Rattle.ao.proofs.silence_after.Tie as tie
 
-add-result : tie.Need-add-result
-add-result c = search needs
-
 returns : tie.Need-returns
 unfolding silenceAfter
 returns c = rw (c .before .if1 .taken) (omega arith)
@@ -22,4 +19,4 @@ unfolding silenceAfter
 returns-3 c = rw (c .if1 .left)
 
 pub silence-after-spec : {M : Type 1} → statement M
-silence-after-spec = tie.close (tie.spec add-result returns returns-2 returns-3)
+silence-after-spec = tie.close (tie.spec (λ c. search needs) returns returns-2 returns-3)

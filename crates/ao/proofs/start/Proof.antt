@@ -5,15 +5,9 @@ use borrow.Author.Needs.{needs}
 use Rattle.ao.proofs.start.Statement.{statement}
 use Rattle.ao.proofs.start.Tie as tie
 
-no-telegrams-requires : tie.Need-no-telegrams-requires
-no-telegrams-requires c κs = search needs
-
-no-telegrams-requires-2 : tie.Need-no-telegrams-requires-2
-no-telegrams-requires-2 c κs = search needs
-
 returns : tie.Need-returns
 unfolding started
 returns c = rw (c .no-telegrams2 .ensures, c .before .no-telegrams .ensures)
 
 pub start-spec : {M : Type 1} → statement M
-start-spec = tie.close (tie.spec no-telegrams-requires no-telegrams-requires-2 returns)
+start-spec = tie.close (tie.spec (λ c κs. search needs) (λ c κs. search needs) returns)

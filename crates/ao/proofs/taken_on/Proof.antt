@@ -5,19 +5,13 @@ use borrow.Author.Needs.{needs}
 use Rattle.ao.proofs.taken_on.Statement.{statement}
 use Rattle.ao.proofs.taken_on.Tie as tie
 
-heard-requires : tie.Need-heard-requires
-heard-requires c κs = search needs
-
 returns : tie.Need-returns
 unfolding takenOn
 returns c = rw (c .heard .ensures, c .before .if1 .taken)
-
-heard-requires-2 : tie.Need-heard-requires-2
-heard-requires-2 c κs = search needs
 
 returns-2 : tie.Need-returns-2
 unfolding takenOn
 returns-2 c = rw (c .heard2 .ensures, c .before .if1 .left)
 
 pub taken-on-spec : {M : Type 1} → statement M
-taken-on-spec = tie.close (tie.spec heard-requires returns heard-requires-2 returns-2)
+taken-on-spec = tie.close (tie.spec (λ c κs. search needs) returns (λ c κs. search needs) returns-2)

@@ -9,18 +9,6 @@ returns : tie.Need-returns
 unfolding telegramOf
 returns c = rw (c .if1 .taken)
 
-pair-of-requires : tie.Need-pair-of-requires
-pair-of-requires c κs = search needs
-
-enum-known-received : tie.Need-enum-known-received
-enum-known-received c = search needs
-
-taken-on-requires : tie.Need-taken-on-requires
-taken-on-requires c κs = search needs
-
-enum-known-received-2 : tie.Need-enum-known-received-2
-enum-known-received-2 c = search needs
-
 returns-2 : tie.Need-returns-2
 unfolding telegramOf
 returns-2 c = rw (c .taken-on .ensures, c .before .before .before .before .before .if1 .left, ← c .before .before .before .before .pair-of .ensures, c .before .before .received .given .1)
@@ -34,9 +22,9 @@ telegram-spec =
     tie.close
     (tie.spec
     returns
-    pair-of-requires
-    enum-known-received
-    taken-on-requires
-    enum-known-received-2
+    (λ c κs. search needs)
+    (λ c. search needs)
+    (λ c κs. search needs)
+    (λ c. search needs)
     returns-2
     returns-3)

@@ -5,12 +5,9 @@ use borrow.Author.Needs.{needs}
 use Rattle.ao.proofs.warm_start.Statement.{statement}
 use Rattle.ao.proofs.warm_start.Tie as tie
 
-start-requires : tie.Need-start-requires
-start-requires c κs = search needs
-
 returns : tie.Need-returns
 unfolding warmStarted
 returns c = c .start .ensures
 
 pub warm-start-spec : {M : Type 1} → statement M
-warm-start-spec = tie.close (tie.spec start-requires returns)
+warm-start-spec = tie.close (tie.spec (λ c κs. search needs) returns)

@@ -5,9 +5,6 @@ use borrow.Author.Needs.{needs}
 use Rattle.blocks.proofs.input_status.Statement.{statement}
 use Rattle.blocks.proofs.input_status.Tie as tie
 
-quality-requires : tie.Need-quality-requires
-quality-requires c κs = search needs
-
 returns : tie.Need-returns
 unfolding inputStatus
 returns c = rw (← c .before .quality .ensures, c .if1 .taken)
@@ -30,4 +27,4 @@ returns-5 c = rw (← c .before .before .before .before .quality .ensures, c .be
 
 pub input-status-spec : {M : Type 1} → statement M
 input-status-spec =
-    tie.close (tie.spec quality-requires returns returns-2 returns-3 returns-4 returns-5)
+    tie.close (tie.spec (λ c κs. search needs) returns returns-2 returns-3 returns-4 returns-5)

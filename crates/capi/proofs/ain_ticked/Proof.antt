@@ -5,12 +5,9 @@ use borrow.Author.Needs.{needs}
 use Rattle.capi.proofs.ain_ticked.Statement.{statement}
 use Rattle.capi.proofs.ain_ticked.Tie as tie
 
-tick-requires : tie.Need-tick-requires
-tick-requires c κs = search needs
-
 returns : tie.Need-returns
 unfolding ainTicked
 returns c = rw (c .tick .ensures)
 
 pub ain-ticked-spec : {M : Type 1} → statement M
-ain-ticked-spec = tie.close (tie.spec tick-requires returns)
+ain-ticked-spec = tie.close (tie.spec (λ c κs. search needs) returns)

@@ -4,14 +4,8 @@ use borrow.Author.Needs.{needs}
 use Rattle.capi.proofs.order_numbers.Statement.{statement}
 use Rattle.capi.proofs.order_numbers.Tie as tie
 
-enum-known-order : tie.Need-enum-known-order
-enum-known-order c = search needs
-
 enum-told : tie.Need-enum-told
 enum-told c = search needs
-
-enum-told-2 : tie.Need-enum-told-2
-enum-told-2 c = search needs
 
 returns : tie.Need-returns
 returns c = rw (c .before .order .given .1)
@@ -24,4 +18,4 @@ returns-3 c = rw (c .enum-told2 .given .1)
 
 pub order-numbers-spec : {M : Type 1} → statement M
 order-numbers-spec =
-    tie.close (tie.spec enum-known-order enum-told enum-told-2 returns returns-2 returns-3)
+    tie.close (tie.spec (λ c. search needs) enum-told (λ c. search needs) returns returns-2 returns-3)

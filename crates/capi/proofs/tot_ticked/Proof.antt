@@ -5,12 +5,9 @@ use borrow.Author.Needs.{needs}
 use Rattle.capi.proofs.tot_ticked.Statement.{statement}
 use Rattle.capi.proofs.tot_ticked.Tie as tie
 
-tick-requires : tie.Need-tick-requires
-tick-requires c κs = search needs
-
 returns : tie.Need-returns
 unfolding totTicked
 returns c = rw (c .tick .ensures)
 
 pub tot-ticked-spec : {M : Type 1} → statement M
-tot-ticked-spec = tie.close (tie.spec tick-requires returns)
+tot-ticked-spec = tie.close (tie.spec (λ c κs. search needs) returns)

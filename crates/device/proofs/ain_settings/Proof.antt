@@ -6,12 +6,6 @@ use borrow.Author.Needs.{needs}
 use Rattle.device.proofs.ain_settings.Statement.{statement}
 use Rattle.device.proofs.ain_settings.Tie as tie
 
-float-of-requires : tie.Need-float-of-requires
-float-of-requires c κs = search needs
-
-float-of-requires-2 : tie.Need-float-of-requires-2
-float-of-requires-2 c κs = search needs
-
 returns : tie.Need-returns
 unfolding ainSettings
 returns c = rw (c .match .keys1)
@@ -64,8 +58,8 @@ pub ain-settings-spec : {M : Type 1} → statement M
 ain-settings-spec =
     tie.close
     (tie.spec
-    float-of-requires
-    float-of-requires-2
+    (λ c κs. search needs)
+    (λ c κs. search needs)
     returns
     returns-2
     returns-3

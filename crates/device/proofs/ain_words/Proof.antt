@@ -6,60 +6,6 @@ use borrow.Author.Needs.{needs}
 use Rattle.device.proofs.ain_words.Statement.{statement}
 use Rattle.device.proofs.ain_words.Tie as tie
 
-cast-code-words : tie.Need-cast-code-words
-cast-code-words c = search needs
-
-code-words-requires : tie.Need-code-words-requires
-code-words-requires c κs = search needs
-
-code-words-requires-2 : tie.Need-code-words-requires-2
-code-words-requires-2 c κs = search needs
-
-code-words-requires-3 : tie.Need-code-words-requires-3
-code-words-requires-3 c κs = search needs
-
-alarm-byte-requires : tie.Need-alarm-byte-requires
-alarm-byte-requires c κs = search needs
-
-code-words-requires-4 : tie.Need-code-words-requires-4
-code-words-requires-4 c κs = search needs
-
-pair-words-requires : tie.Need-pair-words-requires
-pair-words-requires c κs = search needs
-
-scale-words-requires : tie.Need-scale-words-requires
-scale-words-requires c κs = search needs
-
-scale-words-requires-2 : tie.Need-scale-words-requires-2
-scale-words-requires-2 c κs = search needs
-
-float-words-requires : tie.Need-float-words-requires
-float-words-requires c κs = search needs
-
-code-words-requires-5 : tie.Need-code-words-requires-5
-code-words-requires-5 c κs = search needs
-
-float-words-requires-2 : tie.Need-float-words-requires-2
-float-words-requires-2 c κs = search needs
-
-float-words-requires-3 : tie.Need-float-words-requires-3
-float-words-requires-3 c κs = search needs
-
-float-words-requires-4 : tie.Need-float-words-requires-4
-float-words-requires-4 c κs = search needs
-
-float-words-requires-5 : tie.Need-float-words-requires-5
-float-words-requires-5 c κs = search needs
-
-float-words-requires-6 : tie.Need-float-words-requires-6
-float-words-requires-6 c κs = search needs
-
-float-words-requires-7 : tie.Need-float-words-requires-7
-float-words-requires-7 c κs = search needs
-
-code-words-requires-6 : tie.Need-code-words-requires-6
-code-words-requires-6 c κs = search needs
-
 returns : tie.Need-returns
 unfolding ainWords
 returns c = rw (c .code-words .ensures, c .before .before .match .keys1)
@@ -128,24 +74,24 @@ pub ain-words-spec : {M : Type 1} → statement M
 ain-words-spec =
     tie.close
     (tie.spec
-    cast-code-words
-    code-words-requires
-    code-words-requires-2
-    code-words-requires-3
-    alarm-byte-requires
-    code-words-requires-4
-    pair-words-requires
-    scale-words-requires
-    scale-words-requires-2
-    float-words-requires
-    code-words-requires-5
-    float-words-requires-2
-    float-words-requires-3
-    float-words-requires-4
-    float-words-requires-5
-    float-words-requires-6
-    float-words-requires-7
-    code-words-requires-6
+    (λ c. search needs)
+    (λ c κs. search needs)
+    (λ c κs. search needs)
+    (λ c κs. search needs)
+    (λ c κs. search needs)
+    (λ c κs. search needs)
+    (λ c κs. search needs)
+    (λ c κs. search needs)
+    (λ c κs. search needs)
+    (λ c κs. search needs)
+    (λ c κs. search needs)
+    (λ c κs. search needs)
+    (λ c κs. search needs)
+    (λ c κs. search needs)
+    (λ c κs. search needs)
+    (λ c κs. search needs)
+    (λ c κs. search needs)
+    (λ c κs. search needs)
     returns
     returns-2
     returns-3

@@ -6,21 +6,6 @@ use borrow.Author.Needs.{needs}
 use Rattle.device.proofs.ain_written.Statement.{statement}
 use Rattle.device.proofs.ain_written.Tie as tie
 
-counts-requires : tie.Need-counts-requires
-counts-requires c κs = search needs
-
-rev-after-requires : tie.Need-rev-after-requires
-rev-after-requires c κs = search needs
-
-ain-settings-requires : tie.Need-ain-settings-requires
-ain-settings-requires c κs = search needs
-
-status-of-requires : tie.Need-status-of-requires
-status-of-requires c κs = search needs
-
-operated-requires : tie.Need-operated-requires
-operated-requires c κs = search needs
-
 returns : tie.Need-returns
 unfolding ainWritten
 returns c = rw (c .before .operated .ensures, c .before .before .before .status-of .ensures, c .before .before .before .before .ain-settings .ensures, c .before .before .before .before .before .rev-after .ensures, c .before .before .before .before .before .before .counts .ensures, c .match .keys1)
@@ -33,10 +18,10 @@ pub ain-written-spec : {M : Type 1} → statement M
 ain-written-spec =
     tie.close
     (tie.spec
-    counts-requires
-    rev-after-requires
-    ain-settings-requires
-    status-of-requires
-    operated-requires
+    (λ c κs. search needs)
+    (λ c κs. search needs)
+    (λ c κs. search needs)
+    (λ c κs. search needs)
+    (λ c κs. search needs)
     returns
     returns-2)

@@ -6,12 +6,6 @@ use borrow.Author.Needs.{needs}
 use Rattle.device.proofs.ao_settings.Statement.{statement}
 use Rattle.device.proofs.ao_settings.Tie as tie
 
-float-of-requires : tie.Need-float-of-requires
-float-of-requires c κs = search needs
-
-float-of-requires-2 : tie.Need-float-of-requires-2
-float-of-requires-2 c κs = search needs
-
 returns : tie.Need-returns
 unfolding aoSettings
 returns c = rw (c .match .keys1)
@@ -48,8 +42,8 @@ pub ao-settings-spec : {M : Type 1} → statement M
 ao-settings-spec =
     tie.close
     (tie.spec
-    float-of-requires
-    float-of-requires-2
+    (λ c κs. search needs)
+    (λ c κs. search needs)
     returns
     returns-2
     returns-3

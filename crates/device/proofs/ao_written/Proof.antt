@@ -6,21 +6,6 @@ use borrow.Author.Needs.{needs}
 use Rattle.device.proofs.ao_written.Statement.{statement}
 use Rattle.device.proofs.ao_written.Tie as tie
 
-counts-requires : tie.Need-counts-requires
-counts-requires c κs = search needs
-
-rev-after-requires : tie.Need-rev-after-requires
-rev-after-requires c κs = search needs
-
-ao-settings-requires : tie.Need-ao-settings-requires
-ao-settings-requires c κs = search needs
-
-status-of-requires : tie.Need-status-of-requires
-status-of-requires c κs = search needs
-
-operated-requires : tie.Need-operated-requires
-operated-requires c κs = search needs
-
 returns : tie.Need-returns
 unfolding aoWritten
 returns c = rw (c .before .operated .ensures, c .before .before .before .status-of .ensures, c .before .before .before .before .ao-settings .ensures, c .before .before .before .before .before .rev-after .ensures, c .before .before .before .before .before .before .counts .ensures, c .match .keys1)
@@ -33,10 +18,10 @@ pub ao-written-spec : {M : Type 1} → statement M
 ao-written-spec =
     tie.close
     (tie.spec
-    counts-requires
-    rev-after-requires
-    ao-settings-requires
-    status-of-requires
-    operated-requires
+    (λ c κs. search needs)
+    (λ c κs. search needs)
+    (λ c κs. search needs)
+    (λ c κs. search needs)
+    (λ c κs. search needs)
     returns
     returns-2)

@@ -4,11 +4,8 @@ use borrow.Author.Needs.{needs}
 use Rattle.device.proofs.float_words.Statement.{statement}
 use Rattle.device.proofs.float_words.Tie as tie
 
-bits-of-requires : tie.Need-bits-of-requires
-bits-of-requires c κs = search needs
-
 returns : tie.Need-returns
 returns c = rw (c .bits-of .ensures)
 
 pub float-words-spec : {M : Type 1} → statement M
-float-words-spec = tie.close (tie.spec bits-of-requires returns)
+float-words-spec = tie.close (tie.spec (λ c κs. search needs) returns)

@@ -5,20 +5,8 @@ use borrow.Author.Needs.{needs}
 use Rattle.device.proofs.read.Statement.{statement}
 use Rattle.device.proofs.read.Tie as tie
 
-entry-of-requires : tie.Need-entry-of-requires
-entry-of-requires c κs = search needs
-
 enum-told : tie.Need-enum-told
 enum-told c = search needs
-
-enum-told-2 : tie.Need-enum-told-2
-enum-told-2 c = search needs
-
-enum-told-3 : tie.Need-enum-told-3
-enum-told-3 c = search needs
-
-words-of-requires : tie.Need-words-of-requires
-words-of-requires c κs = search needs
 
 returns : tie.Need-returns
 unfolding readOf
@@ -36,11 +24,11 @@ pub read-spec : {M : Type 1} → statement M
 read-spec =
     tie.close
     (tie.spec
-    entry-of-requires
+    (λ c κs. search needs)
     enum-told
-    enum-told-2
-    enum-told-3
-    words-of-requires
+    (λ c. search needs)
+    (λ c. search needs)
+    (λ c κs. search needs)
     returns
     returns-2
     returns-3)

@@ -5,9 +5,6 @@ use borrow.Author.Needs.{needs}
 use Rattle.device.proofs.rev_after.Statement.{statement}
 use Rattle.device.proofs.rev_after.Tie as tie
 
-wrapping-add-u16-requires : tie.Need-wrapping-add-u16-requires
-wrapping-add-u16-requires c κs = search needs
-
 returns : tie.Need-returns
 unfolding revAfter
 returns c = rw (c .wrapping-add-u16 .ensures, c .before .if1 .taken)
@@ -17,4 +14,4 @@ unfolding revAfter
 returns-2 c = rw (c .if1 .left)
 
 pub rev-after-spec : {M : Type 1} → statement M
-rev-after-spec = tie.close (tie.spec wrapping-add-u16-requires returns returns-2)
+rev-after-spec = tie.close (tie.spec (λ c κs. search needs) returns returns-2)

@@ -6,15 +6,6 @@ use borrow.Author.Needs.{needs}
 use Rattle.device.proofs.stored.Statement.{statement}
 use Rattle.device.proofs.stored.Tie as tie
 
-ain-written-requires : tie.Need-ain-written-requires
-ain-written-requires c κs = search needs
-
-tot-written-requires : tie.Need-tot-written-requires
-tot-written-requires c κs = search needs
-
-ao-written-requires : tie.Need-ao-written-requires
-ao-written-requires c κs = search needs
-
 returns : tie.Need-returns
 unfolding storedIn
 returns c = rw (c .match .keys1)
@@ -39,9 +30,9 @@ pub stored-spec : {M : Type 1} → statement M
 stored-spec =
     tie.close
     (tie.spec
-    ain-written-requires
-    tot-written-requires
-    ao-written-requires
+    (λ c κs. search needs)
+    (λ c κs. search needs)
+    (λ c κs. search needs)
     returns
     returns-2
     returns-3

@@ -5,12 +5,9 @@ use borrow.Author.Needs.{needs}
 use Rattle.device.proofs.telegram.Statement.{statement}
 use Rattle.device.proofs.telegram.Tie as tie
 
-telegram-requires : tie.Need-telegram-requires
-telegram-requires c κs = search needs
-
 returns : tie.Need-returns
 unfolding telegramOf
 returns c = rw (c .before .before .telegram .ensures)
 
 pub telegram-spec : {M : Type 1} → statement M
-telegram-spec = tie.close (tie.spec telegram-requires returns)
+telegram-spec = tie.close (tie.spec (λ c κs. search needs) returns)

@@ -6,9 +6,6 @@ use borrow.Author.Needs.{needs}
 use Rattle.device.proofs.tot_settings.Statement.{statement}
 use Rattle.device.proofs.tot_settings.Tie as tie
 
-float-of-requires : tie.Need-float-of-requires
-float-of-requires c κs = search needs
-
 returns : tie.Need-returns
 unfolding totSettings
 returns c = rw (c .match .keys1)
@@ -36,4 +33,4 @@ returns-6 c = rw (ne-eqb _ 5 (c .match .rest .0 .0 .0 .0 .1), ne-eqb _ 13 (c .ma
 pub tot-settings-spec : {M : Type 1} → statement M
 tot-settings-spec =
     tie.close
-    (tie.spec float-of-requires returns returns-2 returns-3 returns-4 returns-5 returns-6)
+    (tie.spec (λ c κs. search needs) returns returns-2 returns-3 returns-4 returns-5 returns-6)

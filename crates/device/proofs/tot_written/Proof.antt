@@ -6,21 +6,6 @@ use borrow.Author.Needs.{needs}
 use Rattle.device.proofs.tot_written.Statement.{statement}
 use Rattle.device.proofs.tot_written.Tie as tie
 
-counts-requires : tie.Need-counts-requires
-counts-requires c κs = search needs
-
-rev-after-requires : tie.Need-rev-after-requires
-rev-after-requires c κs = search needs
-
-tot-settings-requires : tie.Need-tot-settings-requires
-tot-settings-requires c κs = search needs
-
-status-of-requires : tie.Need-status-of-requires
-status-of-requires c κs = search needs
-
-written-requires : tie.Need-written-requires
-written-requires c κs = search needs
-
 returns : tie.Need-returns
 unfolding totWritten
 returns c = rw (c .before .written .ensures, c .before .before .before .status-of .ensures, c .before .before .before .before .tot-settings .ensures, c .before .before .before .before .before .rev-after .ensures, c .before .before .before .before .before .before .counts .ensures, c .match .keys1)
@@ -33,10 +18,10 @@ pub tot-written-spec : {M : Type 1} → statement M
 tot-written-spec =
     tie.close
     (tie.spec
-    counts-requires
-    rev-after-requires
-    tot-settings-requires
-    status-of-requires
-    written-requires
+    (λ c κs. search needs)
+    (λ c κs. search needs)
+    (λ c κs. search needs)
+    (λ c κs. search needs)
+    (λ c κs. search needs)
     returns
     returns-2)

@@ -1,6 +1,5 @@
 -- `device::total` meets its contract: the total is read back as it is.
 -- Assumes nothing.
-use borrow.Author.Needs.{needs}
 use mir.Syntax.{w64}
 use mir.ValLaws.{toZ-ofZ}
 use Rattle.device.proofs.total.Statement.{statement}

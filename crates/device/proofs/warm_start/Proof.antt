@@ -4,17 +4,6 @@ use Rattle.device.specs.Calls.{warmStarted}
 use borrow.Author.Needs.{needs}
 use Rattle.device.proofs.warm_start.Statement.{statement}
 use Rattle.device.proofs.warm_start.Tie as tie
-use Rattle.ao.proofs.warm_start.Reads as warm-start-reads′
-use Rattle.tot.proofs.warm_start.Reads as warm-start-reads′′
-
-warm-start-requires : tie.Need-warm-start-requires
-warm-start-requires c κs = search needs
-
-warm-start-requires-2 : tie.Need-warm-start-requires-2
-warm-start-requires-2 c κs = search needs
-
-warm-start-requires-3 : tie.Need-warm-start-requires-3
-warm-start-requires-3 c κs = search needs
 
 returns : tie.Need-returns
 unfolding warmStarted
@@ -22,4 +11,4 @@ returns c = rw (c .before .before .before .warm-start3 .ensures, c .before .befo
 
 pub warm-start-spec : {M : Type 1} → statement M
 warm-start-spec =
-    tie.close (tie.spec warm-start-requires warm-start-requires-2 warm-start-requires-3 returns)
+    tie.close (tie.spec (λ c κs. search needs) (λ c κs. search needs) (λ c κs. search needs) returns)

@@ -6,18 +6,6 @@ use borrow.Author.Needs.{needs}
 use Rattle.device.proofs.words_of.Statement.{statement}
 use Rattle.device.proofs.words_of.Tie as tie
 
-code-words-requires : tie.Need-code-words-requires
-code-words-requires c κs = search needs
-
-ain-words-requires : tie.Need-ain-words-requires
-ain-words-requires c κs = search needs
-
-tot-words-requires : tie.Need-tot-words-requires
-tot-words-requires c κs = search needs
-
-ao-words-requires : tie.Need-ao-words-requires
-ao-words-requires c κs = search needs
-
 returns : tie.Need-returns
 unfolding wordsOf
 returns c = rw (c .code-words .ensures, c .before .match .keys1)
@@ -38,10 +26,10 @@ pub words-of-spec : {M : Type 1} → statement M
 words-of-spec =
     tie.close
     (tie.spec
-    code-words-requires
-    ain-words-requires
-    tot-words-requires
-    ao-words-requires
+    (λ c κs. search needs)
+    (λ c κs. search needs)
+    (λ c κs. search needs)
+    (λ c κs. search needs)
     returns
     returns-2
     returns-3

@@ -5,20 +5,8 @@ use borrow.Author.Needs.{needs}
 use Rattle.device.proofs.write.Statement.{statement}
 use Rattle.device.proofs.write.Tie as tie
 
-standing-requires : tie.Need-standing-requires
-standing-requires c κs = search needs
-
-answer-to-requires : tie.Need-answer-to-requires
-answer-to-requires c κs = search needs
-
 enum-told : tie.Need-enum-told
 enum-told c = search needs
-
-stored-requires : tie.Need-stored-requires
-stored-requires c κs = search needs
-
-enum-known-answer : tie.Need-enum-known-answer
-enum-known-answer c = search needs
 
 returns : tie.Need-returns
 unfolding writeOf
@@ -32,10 +20,10 @@ pub write-spec : {M : Type 1} → statement M
 write-spec =
     tie.close
     (tie.spec
-    standing-requires
-    answer-to-requires
+    (λ c κs. search needs)
+    (λ c κs. search needs)
     enum-told
-    stored-requires
-    enum-known-answer
+    (λ c κs. search needs)
+    (λ c. search needs)
     returns
     returns-2)

@@ -10,25 +10,10 @@ use borrow.Author.Needs.{needs}
 use Rattle.history.proofs.bytes_at.Statement.{statement}
 use Rattle.history.proofs.bytes_at.Tie as tie
 
-slice-aggregate-result : tie.Need-slice-aggregate-result
-slice-aggregate-result c = search needs
-
 returns : tie.Need-returns
 returns c =
     let a = c .before .before .args in
     rw (drop-of-length-le (now (a .s)) (le-of-lt (c .before .if1 .taken))) (sym (take-nil (a .n)))
-
-sub-if2 : tie.Need-sub-if2
-sub-if2 c = search needs
-
-sub-result : tie.Need-sub-result
-sub-result c = search needs
-
-part-result-start : tie.Need-part-result-start
-part-result-start c = search needs
-
-part-result-end : tie.Need-part-result-end
-part-result-end c = search needs
 
 returns-2 : tie.Need-returns-2
 returns-2 c =
@@ -36,18 +21,6 @@ returns-2 c =
     let l = drop (a .from) (now (a .s)) in
     let n : length l ≡ length (now (a .s)) - a .from = length-drop (a .from) (now (a .s)) in
     take-all (length (now (a .s)) - a .from) l (le-of-eq n) ∙ sym (take-all (a .n) l (subst (λ (k : ℕ). k ≤ a .n) (sym n) (le-of-lt (c .before .if2 .taken))))
-
-add-result : tie.Need-add-result
-add-result c = search needs
-
-sub-result-2 : tie.Need-sub-result-2
-sub-result-2 c = search needs
-
-part-result-start-2 : tie.Need-part-result-start-2
-part-result-start-2 c = search needs
-
-part-result-end-2 : tie.Need-part-result-end-2
-part-result-end-2 c = search needs
 
 returns-3 : tie.Need-returns-3
 returns-3 c =
@@ -58,15 +31,15 @@ pub bytes-at-spec : {M : Type 1} → statement M
 bytes-at-spec =
     tie.close
     (tie.spec
-    slice-aggregate-result
+    (λ c. search needs)
     returns
-    sub-if2
-    sub-result
-    part-result-start
-    part-result-end
+    (λ c. search needs)
+    (λ c. search needs)
+    (λ c. search needs)
+    (λ c. search needs)
     returns-2
-    add-result
-    sub-result-2
-    part-result-start-2
-    part-result-end-2
+    (λ c. search needs)
+    (λ c. search needs)
+    (λ c. search needs)
+    (λ c. search needs)
     returns-3)

@@ -5,18 +5,9 @@ use borrow.Author.Needs.{needs}
 use Rattle.history.proofs.pair_at.Statement.{statement}
 use Rattle.history.proofs.pair_at.Tie as tie
 
-word-at-requires : tie.Need-word-at-requires
-word-at-requires c κs = search needs
-
-add-byte-at : tie.Need-add-byte-at
-add-byte-at c = search needs
-
-byte-at-requires : tie.Need-byte-at-requires
-byte-at-requires c κs = search needs
-
 returns : tie.Need-returns
 unfolding pairAt
 returns c = rw (c .byte-at .ensures, c .before .word-at .ensures)
 
 pub pair-at-spec : {M : Type 1} → statement M
-pair-at-spec = tie.close (tie.spec word-at-requires add-byte-at byte-at-requires returns)
+pair-at-spec = tie.close (tie.spec (λ c κs. search needs) (λ c. search needs) (λ c κs. search needs) returns)

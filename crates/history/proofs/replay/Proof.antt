@@ -10,7 +10,7 @@ use borrow.Author.Needs.{needs}
 use Rattle.device.specs.Factory.{factoryDevice}
 use Rattle.history.specs.declared.Found.{Found}
 use Rattle.history.specs.Encoded.{isMalformed}
-use Rattle.history.proofs.Run.{runFrom, ended, spent, stopped, turned, handed, kept-promise}
+use Rattle.history.proofs.Run.{runFrom, ended, spent, stopped, turned, kept-promise}
 use Rattle.history.proofs.replay.Statement.{statement}
 use Rattle.history.proofs.replay.Tie as tie
 

@@ -6,65 +6,8 @@ use borrow.Author.Needs.{needs}
 use Rattle.parameters.proofs.allows.Statement.{statement}
 use Rattle.parameters.proofs.allows.Tie as tie
 
-float-of-requires : tie.Need-float-of-requires
-float-of-requires c κs = search needs
-
 enum-told : tie.Need-enum-told
 enum-told c = search needs
-
-enum-told-2 : tie.Need-enum-told-2
-enum-told-2 c = search needs
-
-enum-known-allowed : tie.Need-enum-known-allowed
-enum-known-allowed c = search needs
-
-enum-known-allowed-2 : tie.Need-enum-known-allowed-2
-enum-known-allowed-2 c = search needs
-
-enum-told-3 : tie.Need-enum-told-3
-enum-told-3 c = search needs
-
-float-of-requires-2 : tie.Need-float-of-requires-2
-float-of-requires-2 c κs = search needs
-
-is-allowed-requires : tie.Need-is-allowed-requires
-is-allowed-requires c κs = search needs
-
-enum-known-allowed-3 : tie.Need-enum-known-allowed-3
-enum-known-allowed-3 c = search needs
-
-is-within-requires : tie.Need-is-within-requires
-is-within-requires c κs = search needs
-
-enum-told-4 : tie.Need-enum-told-4
-enum-told-4 c = search needs
-
-is-finite-requires : tie.Need-is-finite-requires
-is-finite-requires c κs = search needs
-
-enum-told-5 : tie.Need-enum-told-5
-enum-told-5 c = search needs
-
-is-finite-requires-2 : tie.Need-is-finite-requires-2
-is-finite-requires-2 c κs = search needs
-
-enum-known-allowed-4 : tie.Need-enum-known-allowed-4
-enum-known-allowed-4 c = search needs
-
-is-finite-or-requires : tie.Need-is-finite-or-requires
-is-finite-or-requires c κs = search needs
-
-enum-told-6 : tie.Need-enum-told-6
-enum-told-6 c = search needs
-
-is-finite-requires-3 : tie.Need-is-finite-requires-3
-is-finite-requires-3 c κs = search needs
-
-enum-known-allowed-5 : tie.Need-enum-known-allowed-5
-enum-known-allowed-5 c = search needs
-
-is-within-requires-2 : tie.Need-is-within-requires-2
-is-within-requires-2 c κs = search needs
 
 returns : tie.Need-returns
 unfolding allowsOf ofBits ofInt
@@ -114,26 +57,26 @@ pub allows-spec : {M : Type 1} → statement M
 allows-spec =
     tie.close
     (tie.spec
-    float-of-requires
+    (λ c κs. search needs)
     enum-told
-    enum-told-2
-    enum-known-allowed
-    enum-known-allowed-2
-    enum-told-3
-    float-of-requires-2
-    is-allowed-requires
-    enum-known-allowed-3
-    is-within-requires
-    enum-told-4
-    is-finite-requires
-    enum-told-5
-    is-finite-requires-2
-    enum-known-allowed-4
-    is-finite-or-requires
-    enum-told-6
-    is-finite-requires-3
-    enum-known-allowed-5
-    is-within-requires-2
+    (λ c. search needs)
+    (λ c. search needs)
+    (λ c. search needs)
+    (λ c. search needs)
+    (λ c κs. search needs)
+    (λ c κs. search needs)
+    (λ c. search needs)
+    (λ c κs. search needs)
+    (λ c. search needs)
+    (λ c κs. search needs)
+    (λ c. search needs)
+    (λ c κs. search needs)
+    (λ c. search needs)
+    (λ c κs. search needs)
+    (λ c. search needs)
+    (λ c κs. search needs)
+    (λ c. search needs)
+    (λ c κs. search needs)
     returns
     returns-2
     returns-3

@@ -5,29 +5,8 @@ use borrow.Author.Needs.{needs}
 use Rattle.parameters.proofs.answer_to.Statement.{statement}
 use Rattle.parameters.proofs.answer_to.Tie as tie
 
-entry-of-requires : tie.Need-entry-of-requires
-entry-of-requires c κs = search needs
-
 enum-told : tie.Need-enum-told
 enum-told c = search needs
-
-enum-told-2 : tie.Need-enum-told-2
-enum-told-2 c = search needs
-
-enum-known-entry : tie.Need-enum-known-entry
-enum-known-entry c = search needs
-
-is-read-only-requires : tie.Need-is-read-only-requires
-is-read-only-requires c κs = search needs
-
-allows-requires : tie.Need-allows-requires
-allows-requires c κs = search needs
-
-is-output-requires : tie.Need-is-output-requires
-is-output-requires c κs = search needs
-
-target-in-requires : tie.Need-target-in-requires
-target-in-requires c κs = search needs
 
 returns : tie.Need-returns
 unfolding ground
@@ -61,14 +40,14 @@ pub answer-to-spec : {M : Type 1} → statement M
 answer-to-spec =
     tie.close
     (tie.spec
-    entry-of-requires
+    (λ c κs. search needs)
     enum-told
-    enum-told-2
-    enum-known-entry
-    is-read-only-requires
-    allows-requires
-    is-output-requires
-    target-in-requires
+    (λ c. search needs)
+    (λ c. search needs)
+    (λ c κs. search needs)
+    (λ c κs. search needs)
+    (λ c κs. search needs)
+    (λ c κs. search needs)
     returns
     returns-2
     returns-3

@@ -6,18 +6,6 @@ use borrow.Author.Needs.{needs}
 use Rattle.parameters.proofs.entry_of.Statement.{statement}
 use Rattle.parameters.proofs.entry_of.Tie as tie
 
-physical-entry-requires : tie.Need-physical-entry-requires
-physical-entry-requires c κs = search needs
-
-ain-entry-requires : tie.Need-ain-entry-requires
-ain-entry-requires c κs = search needs
-
-tot-entry-requires : tie.Need-tot-entry-requires
-tot-entry-requires c κs = search needs
-
-ao-entry-requires : tie.Need-ao-entry-requires
-ao-entry-requires c κs = search needs
-
 returns : tie.Need-returns
 unfolding entryOf
 returns c = rw (c .physical-entry .ensures, c .before .match .keys1)
@@ -42,10 +30,10 @@ pub entry-of-spec : {M : Type 1} → statement M
 entry-of-spec =
     tie.close
     (tie.spec
-    physical-entry-requires
-    ain-entry-requires
-    tot-entry-requires
-    ao-entry-requires
+    (λ c κs. search needs)
+    (λ c κs. search needs)
+    (λ c κs. search needs)
+    (λ c κs. search needs)
     returns
     returns-2
     returns-3

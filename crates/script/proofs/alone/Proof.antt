@@ -4,9 +4,6 @@ use borrow.Author.Needs.{needs}
 use Rattle.script.proofs.alone.Statement.{statement}
 use Rattle.script.proofs.alone.Tie as tie
 
-is-end-requires : tie.Need-is-end-requires
-is-end-requires c κs = search needs
-
 returns : tie.Need-returns
 returns c = rw (told (c .before .is-end .ensures) (c .if1 .taken))
 
@@ -14,4 +11,4 @@ returns-2 : tie.Need-returns-2
 returns-2 c = rw (told (c .before .is-end .ensures) (c .if1 .left))
 
 pub alone-spec : {M : Type 1} → statement M
-alone-spec = tie.close (tie.spec is-end-requires returns returns-2)
+alone-spec = tie.close (tie.spec (λ c κs. search needs) returns returns-2)

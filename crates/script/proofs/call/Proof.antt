@@ -7,60 +7,6 @@ use Rattle.script.proofs.call.Tie as tie
 enum-told : tie.Need-enum-told
 enum-told c = search needs
 
-alone-requires : tie.Need-alone-requires
-alone-requires c κs = search needs
-
-enum-told-2 : tie.Need-enum-told-2
-enum-told-2 c = search needs
-
-tick-requires : tie.Need-tick-requires
-tick-requires c κs = search needs
-
-enum-told-3 : tie.Need-enum-told-3
-enum-told-3 c = search needs
-
-telegram-requires : tie.Need-telegram-requires
-telegram-requires c κs = search needs
-
-enum-told-4 : tie.Need-enum-told-4
-enum-told-4 c = search needs
-
-write-requires : tie.Need-write-requires
-write-requires c κs = search needs
-
-enum-told-5 : tie.Need-enum-told-5
-enum-told-5 c = search needs
-
-alone-requires-2 : tie.Need-alone-requires-2
-alone-requires-2 c κs = search needs
-
-enum-told-6 : tie.Need-enum-told-6
-enum-told-6 c = search needs
-
-read-requires : tie.Need-read-requires
-read-requires c κs = search needs
-
-enum-told-7 : tie.Need-enum-told-7
-enum-told-7 c = search needs
-
-image-requires : tie.Need-image-requires
-image-requires c κs = search needs
-
-enum-told-8 : tie.Need-enum-told-8
-enum-told-8 c = search needs
-
-part-requires : tie.Need-part-requires
-part-requires c κs = search needs
-
-enum-told-9 : tie.Need-enum-told-9
-enum-told-9 c = search needs
-
-alone-requires-3 : tie.Need-alone-requires-3
-alone-requires-3 c κs = search needs
-
-enum-told-10 : tie.Need-enum-told-10
-enum-told-10 c = search needs
-
 returns : tie.Need-returns
 unfolding callOf
 returns c = rw (c .alone .ensures, c .before .enum-told .given .1)
@@ -106,24 +52,24 @@ call-spec =
     tie.close
     (tie.spec
     enum-told
-    alone-requires
-    enum-told-2
-    tick-requires
-    enum-told-3
-    telegram-requires
-    enum-told-4
-    write-requires
-    enum-told-5
-    alone-requires-2
-    enum-told-6
-    read-requires
-    enum-told-7
-    image-requires
-    enum-told-8
-    part-requires
-    enum-told-9
-    alone-requires-3
-    enum-told-10
+    (λ c κs. search needs)
+    (λ c. search needs)
+    (λ c κs. search needs)
+    (λ c. search needs)
+    (λ c κs. search needs)
+    (λ c. search needs)
+    (λ c κs. search needs)
+    (λ c. search needs)
+    (λ c κs. search needs)
+    (λ c. search needs)
+    (λ c κs. search needs)
+    (λ c. search needs)
+    (λ c κs. search needs)
+    (λ c. search needs)
+    (λ c κs. search needs)
+    (λ c. search needs)
+    (λ c κs. search needs)
+    (λ c. search needs)
     returns
     returns-2
     returns-3

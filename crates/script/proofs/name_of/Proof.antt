@@ -5,33 +5,15 @@ use borrow.Author.Needs.{needs}
 use Rattle.script.proofs.name_of.Statement.{statement}
 use Rattle.script.proofs.name_of.Tie as tie
 
-slice-aggregate-same : tie.Need-slice-aggregate-same
-slice-aggregate-same c = search needs
-
-same-requires : tie.Need-same-requires
-same-requires c κs = search needs
-
 returns : tie.Need-returns
 unfolding nameOf
 returns c = rw (told (c .before .same .ensures) (c .if1 .taken))
-
-slice-aggregate-same-2 : tie.Need-slice-aggregate-same-2
-slice-aggregate-same-2 c = search needs
-
-same-requires-2 : tie.Need-same-requires-2
-same-requires-2 c κs = search needs
 
 returns-2 : tie.Need-returns-2
 unfolding nameOf
 returns-2 c =
     let c1 = c .before .before .before in
     rw (told (c1 .before .same .ensures) (c1 .if1 .left), told (c .before .same2 .ensures) (c .if2 .taken))
-
-slice-aggregate-same-3 : tie.Need-slice-aggregate-same-3
-slice-aggregate-same-3 c = search needs
-
-same-requires-3 : tie.Need-same-requires-3
-same-requires-3 c κs = search needs
 
 returns-3 : tie.Need-returns-3
 unfolding nameOf
@@ -40,12 +22,6 @@ returns-3 c =
     let c1 = c2 .before .before .before in
     rw (told (c1 .before .same .ensures) (c1 .if1 .left), told (c2 .before .same2 .ensures) (c2 .if2 .left), told (c .before .same3 .ensures) (c .if3 .taken))
 
-slice-aggregate-same-4 : tie.Need-slice-aggregate-same-4
-slice-aggregate-same-4 c = search needs
-
-same-requires-4 : tie.Need-same-requires-4
-same-requires-4 c κs = search needs
-
 returns-4 : tie.Need-returns-4
 unfolding nameOf
 returns-4 c =
@@ -53,12 +29,6 @@ returns-4 c =
     let c2 = c3 .before .before .before in
     let c1 = c2 .before .before .before in
     rw (told (c1 .before .same .ensures) (c1 .if1 .left), told (c2 .before .same2 .ensures) (c2 .if2 .left), told (c3 .before .same3 .ensures) (c3 .if3 .left), told (c .before .same4 .ensures) (c .if4 .taken))
-
-slice-aggregate-same-5 : tie.Need-slice-aggregate-same-5
-slice-aggregate-same-5 c = search needs
-
-same-requires-5 : tie.Need-same-requires-5
-same-requires-5 c κs = search needs
 
 returns-5 : tie.Need-returns-5
 unfolding nameOf
@@ -69,12 +39,6 @@ returns-5 c =
     let c1 = c2 .before .before .before in
     rw (told (c1 .before .same .ensures) (c1 .if1 .left), told (c2 .before .same2 .ensures) (c2 .if2 .left), told (c3 .before .same3 .ensures) (c3 .if3 .left), told (c4 .before .same4 .ensures) (c4 .if4 .left), told (c .before .same5 .ensures) (c .if5 .taken))
 
-slice-aggregate-same-6 : tie.Need-slice-aggregate-same-6
-slice-aggregate-same-6 c = search needs
-
-same-requires-6 : tie.Need-same-requires-6
-same-requires-6 c κs = search needs
-
 returns-6 : tie.Need-returns-6
 unfolding nameOf
 returns-6 c =
@@ -84,12 +48,6 @@ returns-6 c =
     let c2 = c3 .before .before .before in
     let c1 = c2 .before .before .before in
     rw (told (c1 .before .same .ensures) (c1 .if1 .left), told (c2 .before .same2 .ensures) (c2 .if2 .left), told (c3 .before .same3 .ensures) (c3 .if3 .left), told (c4 .before .same4 .ensures) (c4 .if4 .left), told (c5 .before .same5 .ensures) (c5 .if5 .left), told (c .before .same6 .ensures) (c .if6 .taken))
-
-slice-aggregate-same-7 : tie.Need-slice-aggregate-same-7
-slice-aggregate-same-7 c = search needs
-
-same-requires-7 : tie.Need-same-requires-7
-same-requires-7 c κs = search needs
 
 returns-7 : tie.Need-returns-7
 unfolding nameOf
@@ -102,12 +60,6 @@ returns-7 c =
     let c1 = c2 .before .before .before in
     rw (told (c1 .before .same .ensures) (c1 .if1 .left), told (c2 .before .same2 .ensures) (c2 .if2 .left), told (c3 .before .same3 .ensures) (c3 .if3 .left), told (c4 .before .same4 .ensures) (c4 .if4 .left), told (c5 .before .same5 .ensures) (c5 .if5 .left), told (c6 .before .same6 .ensures) (c6 .if6 .left), told (c .before .same7 .ensures) (c .if7 .taken))
 
-slice-aggregate-same-8 : tie.Need-slice-aggregate-same-8
-slice-aggregate-same-8 c = search needs
-
-same-requires-8 : tie.Need-same-requires-8
-same-requires-8 c κs = search needs
-
 returns-8 : tie.Need-returns-8
 unfolding nameOf
 returns-8 c =
@@ -119,12 +71,6 @@ returns-8 c =
     let c2 = c3 .before .before .before in
     let c1 = c2 .before .before .before in
     rw (told (c1 .before .same .ensures) (c1 .if1 .left), told (c2 .before .same2 .ensures) (c2 .if2 .left), told (c3 .before .same3 .ensures) (c3 .if3 .left), told (c4 .before .same4 .ensures) (c4 .if4 .left), told (c5 .before .same5 .ensures) (c5 .if5 .left), told (c6 .before .same6 .ensures) (c6 .if6 .left), told (c7 .before .same7 .ensures) (c7 .if7 .left), told (c .before .same8 .ensures) (c .if8 .taken))
-
-slice-aggregate-same-9 : tie.Need-slice-aggregate-same-9
-slice-aggregate-same-9 c = search needs
-
-same-requires-9 : tie.Need-same-requires-9
-same-requires-9 c κs = search needs
 
 returns-9 : tie.Need-returns-9
 unfolding nameOf
@@ -156,31 +102,31 @@ pub name-of-spec : {M : Type 1} → statement M
 name-of-spec =
     tie.close
     (tie.spec
-    slice-aggregate-same
-    same-requires
+    (λ c. search needs)
+    (λ c κs. search needs)
     returns
-    slice-aggregate-same-2
-    same-requires-2
+    (λ c. search needs)
+    (λ c κs. search needs)
     returns-2
-    slice-aggregate-same-3
-    same-requires-3
+    (λ c. search needs)
+    (λ c κs. search needs)
     returns-3
-    slice-aggregate-same-4
-    same-requires-4
+    (λ c. search needs)
+    (λ c κs. search needs)
     returns-4
-    slice-aggregate-same-5
-    same-requires-5
+    (λ c. search needs)
+    (λ c κs. search needs)
     returns-5
-    slice-aggregate-same-6
-    same-requires-6
+    (λ c. search needs)
+    (λ c κs. search needs)
     returns-6
-    slice-aggregate-same-7
-    same-requires-7
+    (λ c. search needs)
+    (λ c κs. search needs)
     returns-7
-    slice-aggregate-same-8
-    same-requires-8
+    (λ c. search needs)
+    (λ c κs. search needs)
     returns-8
-    slice-aggregate-same-9
-    same-requires-9
+    (λ c. search needs)
+    (λ c κs. search needs)
     returns-9
     returns-10)

@@ -10,38 +10,17 @@ returns : tie.Need-returns
 unfolding commandOf
 returns c = rw (c .if1 .taken)
 
-next-word-requires : tie.Need-next-word-requires
-next-word-requires c κs = search needs
-
 returns-2 : tie.Need-returns-2
 unfolding commandOf
 returns-2 c =
     let w = c .before .next-word .ensures in
     rw (c .before .before .if1 .left, told (w .none) (eq-eqb _ _ (c .if2 .taken)))
 
-shared-slice-read-remark : tie.Need-shared-slice-read-remark
-shared-slice-read-remark c = search needs
-
 returns-3 : tie.Need-returns-3
 unfolding commandOf
 returns-3 c =
     let w = c .before .before .before .next-word .ensures in
     rw (c .before .before .before .before .if1 .left, told (w .none) (ne-eqb _ _ (c .before .before .if2 .left)), c .if3 .taken)
-
-sub-name-of : tie.Need-sub-name-of
-sub-name-of c = search needs
-
-part-name-of-start : tie.Need-part-name-of-start
-part-name-of-start c = search needs
-
-part-name-of-end : tie.Need-part-name-of-end
-part-name-of-end c = search needs
-
-name-of-requires : tie.Need-name-of-requires
-name-of-requires c κs = search needs
-
-call-requires : tie.Need-call-requires
-call-requires c κs = search needs
 
 returns-4 : tie.Need-returns-4
 unfolding commandOf
@@ -54,13 +33,13 @@ parse-spec =
     tie.close
     (tie.spec
     returns
-    next-word-requires
+    (λ c κs. search needs)
     returns-2
-    shared-slice-read-remark
+    (λ c. search needs)
     returns-3
-    sub-name-of
-    part-name-of-start
-    part-name-of-end
-    name-of-requires
-    call-requires
+    (λ c. search needs)
+    (λ c. search needs)
+    (λ c. search needs)
+    (λ c κs. search needs)
+    (λ c κs. search needs)
     returns-4)

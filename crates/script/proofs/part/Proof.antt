@@ -17,23 +17,8 @@ limits = 255 ∷ 64 ∷ []
 within : (c : tie.Then1) (k : ℕ) → k < length limits → getD (c .before .before .numbers .last .1 .1 .1 .0) k 0 ≤ getD limits k 0
 within c k h = rw (c .before .before .numbers .ensures .1) (fitting-within limits _ k (told (c .before .before .numbers .ensures .0) (c .if1 .taken)) h)
 
-slice-aggregate-numbers : tie.Need-slice-aggregate-numbers
-slice-aggregate-numbers c = search needs
-
-slice-aggregate-numbers-2 : tie.Need-slice-aggregate-numbers-2
-slice-aggregate-numbers-2 c = search needs
-
-numbers-requires : tie.Need-numbers-requires
-numbers-requires c κs = search needs
-
-array-read-t13 : tie.Need-array-read-t13
-array-read-t13 c = search needs
-
 cast-t14 : tie.Need-cast-t14
 cast-t14 c = omega (arith, within c 0 (omega arith))
-
-array-read-t17 : tie.Need-array-read-t17
-array-read-t17 c = search needs
 
 returns : tie.Need-returns
 unfolding partCall
@@ -47,11 +32,11 @@ pub part-spec : {M : Type 1} → statement M
 part-spec =
     tie.close
     (tie.spec
-    slice-aggregate-numbers
-    slice-aggregate-numbers-2
-    numbers-requires
-    array-read-t13
+    (λ c. search needs)
+    (λ c. search needs)
+    (λ c κs. search needs)
+    (λ c. search needs)
     cast-t14
-    array-read-t17
+    (λ c. search needs)
     returns
     returns-2)

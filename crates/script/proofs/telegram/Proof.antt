@@ -1,5 +1,5 @@
 -- `script::telegram` meets its contract: there are one to 65 words, and `numbers` tells whether each is a byte.
-use Prim.Native.Nat.{ℕ, zero, suc, _≤_, _<_}
+use Prim.Native.Nat.{ℕ, zero, suc, _≤_}
 use mathlib.Core.Path.{_≡_, refl, sym, ap, _∙_}
 use mathlib.Core.Bool.{true}
 use mathlib.Core.List.{List, _∷_, _++_}
@@ -44,9 +44,6 @@ fit c = rw (byte-limits (c .before .before .before .before .before .count .resul
 stored : (c : tie.After-numbers) → c .numbers .last .1 .1 .1 .0 ≡ valuesOf (c .before .before .before .before .before .count .result) (arguments (c .before .before .before .before .before .before .before))
 stored c = rw (length-take-le {A = ℕ} (c .before .before .before .before .before .count .result) (replicate 65 255) (omega arith)) at (c .numbers .ensures .1)
 
-count-requires : tie.Need-count-requires
-count-requires c κs = search needs
-
 returns : tie.Need-returns
 unfolding telegramCall
 returns c =
@@ -60,14 +57,8 @@ returns-2 c =
     let ws = wordsOf (drop (c .before .before .before .before .args .at) (now (c .before .before .before .before .args .line))) in
     rw (le-leb 1 (length ws) (omega arith), lt-leb (length ws) 65 (omega arith))
 
-array-share-prefix-limits : tie.Need-array-share-prefix-limits
-array-share-prefix-limits c = search needs
-
 slice-aggregate-numbers : tie.Need-slice-aggregate-numbers
 slice-aggregate-numbers c = sym (length-take-le _ (replicate 65 255) (omega arith))
-
-array-borrow-prefix-v : tie.Need-array-borrow-prefix-v
-array-borrow-prefix-v c = search needs
 
 slice-aggregate-numbers-2 : tie.Need-slice-aggregate-numbers-2
 slice-aggregate-numbers-2 c = sym (length-take-le _ (replicate 65 0) (omega arith))
@@ -77,9 +68,6 @@ numbers-requires c κs =
     let n = c .before .before .before .before .count .result in
     (omega arith, length-take-le n (replicate 65 0) (omega arith) ∙ sym (length-take-le n (replicate 65 255) (omega arith)))
 
-array-read-t14 : tie.Need-array-read-t14
-array-read-t14 c = search needs
-
 cast-t15 : tie.Need-cast-t15
 cast-t15 c =
     let n = c .before .before .before .before .before .before .before .count .result in
@@ -87,9 +75,6 @@ cast-t15 c =
     let h : 1 ≤ n = omega arith in
     let w = first-within n ws h (told (fit (c .before .before)) (c .if3 .taken)) in
     rw (stored (c .before .before), first-value n ws _ h) (omega arith)
-
-sub-t16 : tie.Need-sub-t16
-sub-t16 c = search needs
 
 returns-3 : tie.Need-returns-3
 unfolding telegramCall
@@ -109,16 +94,16 @@ pub telegram-spec : {M : Type 1} → statement M
 telegram-spec =
     tie.close
     (tie.spec
-    count-requires
+    (λ c κs. search needs)
     returns
     returns-2
-    array-share-prefix-limits
+    (λ c. search needs)
     slice-aggregate-numbers
-    array-borrow-prefix-v
+    (λ c. search needs)
     slice-aggregate-numbers-2
     numbers-requires
-    array-read-t14
+    (λ c. search needs)
     cast-t15
-    sub-t16
+    (λ c. search needs)
     returns-3
     returns-4)

@@ -17,38 +17,14 @@ limits = 1 ∷ 4294967295 ∷ 255 ∷ 4294967295 ∷ 255 ∷ []
 within : (c : tie.Then1) (k : ℕ) → k < length limits → getD (c .before .before .numbers .last .1 .1 .1 .0) k 0 ≤ getD limits k 0
 within c k h = rw (c .before .before .numbers .ensures .1) (fitting-within limits _ k (told (c .before .before .numbers .ensures .0) (c .if1 .taken)) h)
 
-slice-aggregate-numbers : tie.Need-slice-aggregate-numbers
-slice-aggregate-numbers c = search needs
-
-slice-aggregate-numbers-2 : tie.Need-slice-aggregate-numbers-2
-slice-aggregate-numbers-2 c = search needs
-
-numbers-requires : tie.Need-numbers-requires
-numbers-requires c κs = search needs
-
-array-read-fault : tie.Need-array-read-fault
-array-read-fault c = search needs
-
-array-read-t14 : tie.Need-array-read-t14
-array-read-t14 c = search needs
-
 cast-t17 : tie.Need-cast-t17
 cast-t17 c = omega (arith, within c 1 (omega arith))
-
-array-read-t20 : tie.Need-array-read-t20
-array-read-t20 c = search needs
 
 cast-t21 : tie.Need-cast-t21
 cast-t21 c = omega (arith, within c 2 (omega arith))
 
-array-read-t24 : tie.Need-array-read-t24
-array-read-t24 c = search needs
-
 cast-t25 : tie.Need-cast-t25
 cast-t25 c = omega (arith, within c 3 (omega arith))
-
-array-read-t28 : tie.Need-array-read-t28
-array-read-t28 c = search needs
 
 cast-t29 : tie.Need-cast-t29
 cast-t29 c = omega (arith, within c 4 (omega arith))
@@ -65,17 +41,17 @@ pub tick-spec : {M : Type 1} → statement M
 tick-spec =
     tie.close
     (tie.spec
-    slice-aggregate-numbers
-    slice-aggregate-numbers-2
-    numbers-requires
-    array-read-fault
-    array-read-t14
+    (λ c. search needs)
+    (λ c. search needs)
+    (λ c κs. search needs)
+    (λ c. search needs)
+    (λ c. search needs)
     cast-t17
-    array-read-t20
+    (λ c. search needs)
     cast-t21
-    array-read-t24
+    (λ c. search needs)
     cast-t25
-    array-read-t28
+    (λ c. search needs)
     cast-t29
     returns
     returns-2)

@@ -17,35 +17,14 @@ limits = 255 ∷ 255 ∷ 4294967295 ∷ 4294967295 ∷ []
 within : (c : tie.Then1) (k : ℕ) → k < length limits → getD (c .before .before .numbers .last .1 .1 .1 .0) k 0 ≤ getD limits k 0
 within c k h = rw (c .before .before .numbers .ensures .1) (fitting-within limits _ k (told (c .before .before .numbers .ensures .0) (c .if1 .taken)) h)
 
-slice-aggregate-numbers : tie.Need-slice-aggregate-numbers
-slice-aggregate-numbers c = search needs
-
-slice-aggregate-numbers-2 : tie.Need-slice-aggregate-numbers-2
-slice-aggregate-numbers-2 c = search needs
-
-numbers-requires : tie.Need-numbers-requires
-numbers-requires c κs = search needs
-
-array-read-t13 : tie.Need-array-read-t13
-array-read-t13 c = search needs
-
 cast-t14 : tie.Need-cast-t14
 cast-t14 c = omega (arith, within c 0 (omega arith))
-
-array-read-t17 : tie.Need-array-read-t17
-array-read-t17 c = search needs
 
 cast-t18 : tie.Need-cast-t18
 cast-t18 c = omega (arith, within c 1 (omega arith))
 
-array-read-t21 : tie.Need-array-read-t21
-array-read-t21 c = search needs
-
 cast-t22 : tie.Need-cast-t22
 cast-t22 c = omega (arith, within c 2 (omega arith))
-
-array-read-t25 : tie.Need-array-read-t25
-array-read-t25 c = search needs
 
 cast-t26 : tie.Need-cast-t26
 cast-t26 c = omega (arith, within c 3 (omega arith))
@@ -62,16 +41,16 @@ pub write-spec : {M : Type 1} → statement M
 write-spec =
     tie.close
     (tie.spec
-    slice-aggregate-numbers
-    slice-aggregate-numbers-2
-    numbers-requires
-    array-read-t13
+    (λ c. search needs)
+    (λ c. search needs)
+    (λ c κs. search needs)
+    (λ c. search needs)
     cast-t14
-    array-read-t17
+    (λ c. search needs)
     cast-t18
-    array-read-t21
+    (λ c. search needs)
     cast-t22
-    array-read-t25
+    (λ c. search needs)
     cast-t26
     returns
     returns-2)

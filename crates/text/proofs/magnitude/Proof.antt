@@ -42,8 +42,5 @@ returns c = let h = negative c in rw (h .0) (h .1)
 cast-result-2 : tie.Need-cast-result-2
 cast-result-2 c = let f = c .before .fits .z in let e = toZ-ofZ w64 (c .before .args .z) f in rw e (plain (c .before .args .z) f (rw e at (c .if1 .left)))
 
-returns-2 : tie.Need-returns-2
-returns-2 c = search needs
-
 pub magnitude-spec : {M : Type 1} → statement M
-magnitude-spec = tie.close (tie.spec cast-result add-result returns cast-result-2 returns-2)
+magnitude-spec = tie.close (tie.spec cast-result add-result returns cast-result-2 (λ c. search needs))

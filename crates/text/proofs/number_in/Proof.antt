@@ -20,15 +20,6 @@ returns-2 c =
     let a = c .before .before .before .args in
     rw (le-leb (a .from) (a .to) (omega arith), lt-leb (a .to) (length (now (a .s))) (omega arith))
 
-part-word-number-start : tie.Need-part-word-number-start
-part-word-number-start c = search needs
-
-part-word-number-end : tie.Need-part-word-number-end
-part-word-number-end c = search needs
-
-word-number-requires : tie.Need-word-number-requires
-word-number-requires c κs = search needs
-
 returns-3 : tie.Need-returns-3
 unfolding numberIn
 returns-3 c =
@@ -41,7 +32,7 @@ number-in-spec =
     (tie.spec
     returns
     returns-2
-    part-word-number-start
-    part-word-number-end
-    word-number-requires
+    (λ c. search needs)
+    (λ c. search needs)
+    (λ c κs. search needs)
     returns-3)

@@ -9,9 +9,6 @@ use borrow.Author.Needs.{needs}
 use Rattle.text.proofs.put_bytes.Statement.{statement}
 use Rattle.text.proofs.put_bytes.Tie as tie
 
-add-result : tie.Need-add-result
-add-result c = search needs
-
 returns : tie.Need-returns
 unfolding placeAfter bytesPut
 returns c =
@@ -19,24 +16,12 @@ returns c =
     let h = lt-leb (a .at + length (now (a .bytes))) (length (now (a .buf))) (omega arith) in
     (rw h, rw h)
 
-add-result-2 : tie.Need-add-result-2
-add-result-2 c = search needs
-
 returns-2 : tie.Need-returns-2
 unfolding placeAfter bytesPut
 returns-2 c =
     let a = c .before .before .before .before .args in
     let h = lt-leb (a .at + length (now (a .bytes))) (length (now (a .buf))) (omega arith) in
     (rw h, rw h)
-
-copy-requires : tie.Need-copy-requires
-copy-requires c κs = search needs
-
-add-result-3 : tie.Need-add-result-3
-add-result-3 c = search needs
-
-same-length : tie.Need-same-length
-same-length c = search needs
 
 returns-3 : tie.Need-returns-3
 unfolding placeAfter bytesPut
@@ -49,11 +34,11 @@ pub put-bytes-spec : {M : Type 1} → statement M
 put-bytes-spec =
     tie.close
     (tie.spec
-    add-result
+    (λ c. search needs)
     returns
-    add-result-2
+    (λ c. search needs)
     returns-2
-    copy-requires
-    add-result-3
-    same-length
+    (λ c κs. search needs)
+    (λ c. search needs)
+    (λ c. search needs)
     returns-3)

@@ -12,9 +12,6 @@ returns c =
     let b = c .before .args .byte in
     rw (lt-ltb b 48 (omega arith))
 
-cast-result : tie.Need-cast-result
-cast-result c = search needs
-
 returns-2 : tie.Need-returns-2
 unfolding digitValue
 returns-2 c =
@@ -27,12 +24,6 @@ returns-3 c =
     let b = c .before .before .before .args .byte in
     rw (le-ltb b 48 (omega arith), le-ltb b 58 (omega arith), lt-ltb b 65 (omega arith))
 
-sub-result : tie.Need-sub-result
-sub-result c = search needs
-
-cast-result-2 : tie.Need-cast-result-2
-cast-result-2 c = search needs
-
 returns-4 : tie.Need-returns-4
 unfolding digitValue
 returns-4 c =
@@ -44,12 +35,6 @@ unfolding digitValue
 returns-5 c =
     let b = c .before .before .before .before .before .args .byte in
     rw (le-ltb b 48 (omega arith), le-ltb b 58 (omega arith), le-ltb b 65 (omega arith), le-ltb b 71 (omega arith), lt-ltb b 97 (omega arith))
-
-sub-result-2 : tie.Need-sub-result-2
-sub-result-2 c = search needs
-
-cast-result-3 : tie.Need-cast-result-3
-cast-result-3 c = search needs
 
 returns-6 : tie.Need-returns-6
 unfolding digitValue
@@ -68,14 +53,14 @@ value-spec =
     tie.close
     (tie.spec
     returns
-    cast-result
+    (λ c. search needs)
     returns-2
     returns-3
-    sub-result
-    cast-result-2
+    (λ c. search needs)
+    (λ c. search needs)
     returns-4
     returns-5
-    sub-result-2
-    cast-result-3
+    (λ c. search needs)
+    (λ c. search needs)
     returns-6
     returns-7)

@@ -7,12 +7,6 @@ use Rattle.tot.specs.Tick.{adds}
 use Rattle.tot.proofs.added.Statement.{statement}
 use Rattle.tot.proofs.added.Tie as tie
 
-increment-requires : tie.Need-increment-requires
-increment-requires c κs = search needs
-
-by-mode-requires : tie.Need-by-mode-requires
-by-mode-requires c κs = search needs
-
 returns : tie.Need-returns
 unfolding adds
 returns c =
@@ -26,4 +20,4 @@ unfolding adds
 returns-2 c = rw (c .if1 .left)
 
 pub added-spec : {M : Type 1} → statement M
-added-spec = tie.close (tie.spec increment-requires by-mode-requires returns returns-2)
+added-spec = tie.close (tie.spec (λ c κs. search needs) (λ c κs. search needs) returns returns-2)

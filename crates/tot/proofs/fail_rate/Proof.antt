@@ -4,25 +4,13 @@ use Rattle.tot.specs.Tick.{failRate}
 use Rattle.tot.proofs.fail_rate.Statement.{statement}
 use Rattle.tot.proofs.fail_rate.Tie as tie
 
-is-finite-requires : tie.Need-is-finite-requires
-is-finite-requires c κs = search needs
-
-keep-requires : tie.Need-keep-requires
-keep-requires c κs = search needs
-
 returns : tie.Need-returns
 unfolding failRate
 returns c = rw (c .keep .ensures, c .before .before .before .if1 .taken, ← c .before .before .is-finite .ensures, c .before .if2 .taken)
 
-nothing-requires : tie.Need-nothing-requires
-nothing-requires c κs = search needs
-
 returns-2 : tie.Need-returns-2
 unfolding failRate
 returns-2 c = rw (c .nothing .ensures, c .before .before .before .if1 .taken, ← c .before .before .is-finite .ensures, c .before .if2 .left)
-
-nothing-requires-2 : tie.Need-nothing-requires-2
-nothing-requires-2 c κs = search needs
 
 returns-3 : tie.Need-returns-3
 unfolding failRate
@@ -33,4 +21,4 @@ unfolding failRate
 returns-4 c = rw (c .before .if1 .left, c .if3 .left)
 
 pub fail-rate-spec : {M : Type 1} → statement M
-fail-rate-spec = tie.close (tie.spec is-finite-requires keep-requires returns nothing-requires returns-2 nothing-requires-2 returns-3 returns-4)
+fail-rate-spec = tie.close (tie.spec (λ c κs. search needs) (λ c κs. search needs) returns (λ c κs. search needs) returns-2 (λ c κs. search needs) returns-3 returns-4)

@@ -3,11 +3,8 @@ use borrow.Author.Needs.{needs}
 use Rattle.tot.proofs.fresh.Statement.{statement}
 use Rattle.tot.proofs.fresh.Tie as tie
 
-nothing-requires : tie.Need-nothing-requires
-nothing-requires c κs = search needs
-
 returns : tie.Need-returns
 returns c = rw (c .nothing .ensures)
 
 pub fresh-spec : {M : Type 1} → statement M
-fresh-spec = tie.close (tie.spec nothing-requires returns)
+fresh-spec = tie.close (tie.spec (λ c κs. search needs) returns)

@@ -7,12 +7,6 @@ use Rattle.tot.specs.Total.{givenBits, valueGiven}
 use Rattle.tot.proofs.given.Statement.{statement}
 use Rattle.tot.proofs.given.Tie as tie
 
-value-of-requires : tie.Need-value-of-requires
-value-of-requires c κs = search needs
-
-bits-of-requires : tie.Need-bits-of-requires
-bits-of-requires c κs = search needs
-
 returns : tie.Need-returns
 unfolding givenBits valueGiven ofBits ofInt
 returns c =
@@ -20,4 +14,4 @@ returns c =
     rw (c .bits-of .ensures, c .before .value-of .ensures, toZ-ofZ w64 (s .args .total) (s .fits .total))
 
 pub given-spec : {M : Type 1} → statement M
-given-spec = tie.close (tie.spec value-of-requires bits-of-requires returns)
+given-spec = tie.close (tie.spec (λ c κs. search needs) (λ c κs. search needs) returns)

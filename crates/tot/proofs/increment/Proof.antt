@@ -8,12 +8,6 @@ use Rattle.tot.specs.Total.{incrementOf}
 use Rattle.tot.proofs.increment.Statement.{statement}
 use Rattle.tot.proofs.increment.Tie as tie
 
-cut-requires : tie.Need-cut-requires
-cut-requires c κs = search needs
-
-limited-requires : tie.Need-limited-requires
-limited-requires c κs = search needs
-
 returns : tie.Need-returns
 unfolding incrementOf ofBits ofInt
 returns c =
@@ -22,4 +16,4 @@ returns c =
     ∙ rw (toZ-ofZ w64 (c .before .cut .result) (record { sfits = c .before .cut .ok }), c .before .cut .ensures)
 
 pub increment-spec : {M : Type 1} → statement M
-increment-spec = tie.close (tie.spec cut-requires limited-requires returns)
+increment-spec = tie.close (tie.spec (λ c κs. search needs) (λ c κs. search needs) returns)

@@ -6,9 +6,6 @@ use Rattle.tot.specs.Tick.{manTick}
 use Rattle.tot.proofs.man_tick.Statement.{statement}
 use Rattle.tot.proofs.man_tick.Tie as tie
 
-given-requires : tie.Need-given-requires
-given-requires c κs = search needs
-
 returns : tie.Need-returns
 unfolding manTick
 returns c =
@@ -16,4 +13,4 @@ returns c =
     rw (c .before .given .ensures, f)
 
 pub man-tick-spec : {M : Type 1} → statement M
-man-tick-spec = tie.close (tie.spec given-requires returns)
+man-tick-spec = tie.close (tie.spec (λ c κs. search needs) returns)

@@ -7,9 +7,6 @@ use Rattle.tot.specs.Total.{nextTotal, sumOf}
 use Rattle.tot.proofs.next_total.Statement.{statement}
 use Rattle.tot.proofs.next_total.Tie as tie
 
-limited-sum-requires : tie.Need-limited-sum-requires
-limited-sum-requires c κs = search needs
-
 returns : tie.Need-returns
 unfolding nextTotal sumOf
 returns c =
@@ -22,9 +19,6 @@ returns-2 : tie.Need-returns-2
 unfolding nextTotal
 returns-2 c = rw (c .before .if1 .left, c .if2 .taken)
 
-thousandths-requires : tie.Need-thousandths-requires
-thousandths-requires c κs = search needs
-
 returns-3 : tie.Need-returns-3
 unfolding nextTotal
 returns-3 c =
@@ -33,4 +27,4 @@ returns-3 c =
     ∙ rw (c .before .before .if1 .left, c .before .if2 .left)
 
 pub next-total-spec : {M : Type 1} → statement M
-next-total-spec = tie.close (tie.spec limited-sum-requires returns returns-2 thousandths-requires returns-3)
+next-total-spec = tie.close (tie.spec (λ c κs. search needs) returns returns-2 (λ c κs. search needs) returns-3)

@@ -6,9 +6,6 @@ use Rattle.tot.specs.Tick.{outOfServiceTick}
 use Rattle.tot.proofs.out_of_service_tick.Statement.{statement}
 use Rattle.tot.proofs.out_of_service_tick.Tie as tie
 
-held-requires : tie.Need-held-requires
-held-requires c κs = search needs
-
 returns : tie.Need-returns
 unfolding outOfServiceTick
 returns c =
@@ -16,4 +13,4 @@ returns c =
     rw (c .before .before .held .ensures, f)
 
 pub out-of-service-tick-spec : {M : Type 1} → statement M
-out-of-service-tick-spec = tie.close (tie.spec held-requires returns)
+out-of-service-tick-spec = tie.close (tie.spec (λ c κs. search needs) returns)

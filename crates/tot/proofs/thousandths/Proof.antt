@@ -8,12 +8,9 @@ use Rattle.tot.specs.Total.{thousandthsOf}
 use Rattle.tot.proofs.thousandths.Statement.{statement}
 use Rattle.tot.proofs.thousandths.Tie as tie
 
-cut-requires : tie.Need-cut-requires
-cut-requires c κs = search needs
-
 returns : tie.Need-returns
 unfolding thousandthsOf ofBits ofInt
 returns c = toZ-ofZ w64 (c .cut .result) (record { sfits = c .cut .ok }) ∙ c .cut .ensures
 
 pub thousandths-spec : {M : Type 1} → statement M
-thousandths-spec = tie.close (tie.spec cut-requires returns)
+thousandths-spec = tie.close (tie.spec (λ c κs. search needs) returns)

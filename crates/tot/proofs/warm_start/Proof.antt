@@ -5,16 +5,10 @@ use mir.ValLaws.{toZ-ofZ}
 use Rattle.tot.proofs.warm_start.Statement.{statement}
 use Rattle.tot.proofs.warm_start.Tie as tie
 
-fresh-requires : tie.Need-fresh-requires
-fresh-requires c κs = search needs
-
-held-requires : tie.Need-held-requires
-held-requires c κs = search needs
-
 returns : tie.Need-returns
 returns c =
     let f = toZ-ofZ w64 (c .before .before .before .before .args .st .total) (record { sfits = c .struct-told .given .0 .1 }) in
     rw (c .before .before .held .ensures, c .before .before .before .fresh .ensures, f)
 
 pub warm-start-spec : {M : Type 1} → statement M
-warm-start-spec = tie.close (tie.spec fresh-requires held-requires returns)
+warm-start-spec = tie.close (tie.spec (λ c κs. search needs) (λ c κs. search needs) returns)

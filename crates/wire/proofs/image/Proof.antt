@@ -14,18 +14,6 @@ returns : tie.Need-returns
 unfolding imageAnswer imageBytes
 returns c = let h = lt-leb 15 (length (now (c .before .before .args .buf))) (omega arith) in (rw h, rw h)
 
-put-requires : tie.Need-put-requires
-put-requires c κs = search needs
-
-put-requires-2 : tie.Need-put-requires-2
-put-requires-2 c κs = search needs
-
-put-requires-3 : tie.Need-put-requires-3
-put-requires-3 c κs = search needs
-
-same-length : tie.Need-same-length
-same-length c = search needs
-
 returns-2 : tie.Need-returns-2
 unfolding imageAnswer
 returns-2 c = let a = c .before .before .before .before .before .before .before .before .before .before .before .before .before .before .args in
@@ -35,4 +23,4 @@ returns-2 c = let a = c .before .before .before .before .before .before .before 
 
 pub image-spec : {M : Type 1} → statement M
 image-spec =
-    tie.close (tie.spec returns put-requires put-requires-2 put-requires-3 same-length returns-2)
+    tie.close (tie.spec returns (λ c κs. search needs) (λ c κs. search needs) (λ c κs. search needs) (λ c. search needs) returns-2)

@@ -17,56 +17,23 @@ returns c = let a = c .before .args in
     let h = lt-leb (a .at + 5) (length (now (a .buf))) (omega arith) in
     (rw h, rw h)
 
-sub-if2 : tie.Need-sub-if2
-sub-if2 c = search needs
-
 returns-2 : tie.Need-returns-2
 unfolding putAnswer putBytes
 returns-2 c = let a = c .before .before .args in
     let h = lt-leb (a .at + 5) (length (now (a .buf))) (omega arith) in
     (rw h, rw h)
 
-cast-a : tie.Need-cast-a
-cast-a c = search needs
-
-cast-b : tie.Need-cast-b
-cast-b c = search needs
-
-cast-c : tie.Need-cast-c
-cast-c c = search needs
-
-cast-d : tie.Need-cast-d
-cast-d c = search needs
-
-slice-write-buf : tie.Need-slice-write-buf
-slice-write-buf c = search needs
-
-add-buf : tie.Need-add-buf
-add-buf c = search needs
-
 slice-write-buf-2 : tie.Need-slice-write-buf-2
 slice-write-buf-2 c = simp length-set (omega arith)
-
-add-buf-2 : tie.Need-add-buf-2
-add-buf-2 c = search needs
 
 slice-write-buf-3 : tie.Need-slice-write-buf-3
 slice-write-buf-3 c = simp length-set (omega arith)
 
-add-buf-3 : tie.Need-add-buf-3
-add-buf-3 c = search needs
-
 slice-write-buf-4 : tie.Need-slice-write-buf-4
 slice-write-buf-4 c = simp length-set (omega arith)
 
-add-buf-4 : tie.Need-add-buf-4
-add-buf-4 c = search needs
-
 slice-write-buf-5 : tie.Need-slice-write-buf-5
 slice-write-buf-5 c = simp length-set (omega arith)
-
-same-length : tie.Need-same-length
-same-length c = search needs
 
 returns-3 : tie.Need-returns-3
 unfolding putAnswer putBytes
@@ -79,20 +46,20 @@ put-spec =
     tie.close
     (tie.spec
     returns
-    sub-if2
+    (λ c. search needs)
     returns-2
-    cast-a
-    cast-b
-    cast-c
-    cast-d
-    slice-write-buf
-    add-buf
+    (λ c. search needs)
+    (λ c. search needs)
+    (λ c. search needs)
+    (λ c. search needs)
+    (λ c. search needs)
+    (λ c. search needs)
     slice-write-buf-2
-    add-buf-2
+    (λ c. search needs)
     slice-write-buf-3
-    add-buf-3
+    (λ c. search needs)
     slice-write-buf-4
-    add-buf-4
+    (λ c. search needs)
     slice-write-buf-5
-    same-length
+    (λ c. search needs)
     returns-3)

@@ -16,8 +16,5 @@ returns c = the-nan ∙ sym (is-nan (ofBits binary32 (c .before .args .bits)) (s
 float-from-bits-result : tie.Need-float-from-bits-result
 float-from-bits-result c = subst (λ (b : Bool). T (not b)) (sym (nanBits-above binary32 (c .before .args .bits) ∙ c .if1 .left)) tt
 
-returns-2 : tie.Need-returns-2
-returns-2 c = search needs
-
 pub float-of-spec : {M : Type 1} → statement M
-float-of-spec = tie.close (tie.spec returns float-from-bits-result returns-2)
+float-of-spec = tie.close (tie.spec returns float-from-bits-result (λ c. search needs))

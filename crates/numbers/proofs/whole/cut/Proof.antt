@@ -62,9 +62,6 @@ truncating-f32-to-i64-requires : tie.Need-truncating-f32-to-i64-requires
 unfolding ofBits neg
 truncating-f32-to-i64-requires c κs = (subst T (sym (c .if2 .taken)) tt, subst T (sym (c .before .if1 .taken)) tt)
 
-returns : tie.Need-returns
-returns c = search needs
-
 returns-2 : tie.Need-returns-2
 unfolding ofBits neg
 returns-2 c = under (c .before .before .args .x) (c .before .if1 .taken) (c .if2 .left)
@@ -78,4 +75,4 @@ unfolding ofBits
 returns-4 c = over (c .before .before .args .x) (c .before .if1 .left) (c .if3 .left)
 
 pub cut-spec : {M : Type 1} → statement M
-cut-spec = tie.close (tie.spec truncating-f32-to-i64-requires returns returns-2 returns-3 returns-4)
+cut-spec = tie.close (tie.spec truncating-f32-to-i64-requires (λ c. search needs) returns-2 returns-3 returns-4)

@@ -2,14 +2,14 @@
 use mathlib.Core.Path.{_≡_, sym, ap, subst}
 use mathlib.Core.Bool.{false}
 use Prim.Native.Nat.{ℕ, zero, suc, _+_, _-_, _*_, _/_, _^_, _≤_, _<_}
-use native.Mathlib.Nat.{le-refl, le-trans, le-of-eq, le-of-lt, lt-of-lt-of-le, zero-lt-suc, mul-assoc, mul-le-mul-left, pow-succ', le-add-right, le-add-left, mul-pos, le-div-iff-mul-le, one-mul}
+use native.Mathlib.Nat.{le-refl, le-trans, le-of-eq, le-of-lt, lt-of-lt-of-le, zero-lt-suc, mul-le-mul-left, pow-succ', le-add-right, le-add-left, le-div-iff-mul-le, one-mul}
 use native.Mathlib.Omega.{arith}
 use borrow.Author.Needs.{needs}
 use lib.Dec.{le→leb, lit<}
-use lib.Pow.{pow-add, pow-pos, pow-mono}
+use lib.Pow.{pow-pos, pow-mono}
 use lib.Count.{leadingZeros, leading-unique}
 use lib.IntN.{pos}
-use lib.Ieee.{Float, binary32, size, mul, ofInt, inFloat}
+use lib.Ieee.{binary32, size, mul, ofInt, inFloat}
 use lib.Ieee.Digits.{size-lt, size-le, size-reaches}
 use lib.Ieee.Fits.{kept-lt}
 use lib.Ieee.Back.{round-whole}
@@ -80,21 +80,12 @@ int-to-float-result c = let s = c .before .before in le→leb (s .args .m) (2 ^ 
 returns : tie.Need-returns
 returns c = let s = c .before .before in ap (λ (x : ℕ). ofInt binary32 (pos x)) (sym (highest-small 24 (s .args .m) (small (s .args .m) (s .fits .m .fits) (c .before .if1 .taken))))
 
-sub-k : tie.Need-sub-k
-sub-k c = search needs
-
-shr-top : tie.Need-shr-top
-shr-top c = search needs
-
 int-to-float-top : tie.Need-int-to-float-top
 unfolding inFloat
 int-to-float-top c =
     let s = c .before .before in
     let m = s .args .m in
     le→leb (m / 2 ^ (40 - leadingZeros 64 m)) (2 ^ 24) (rw (cleared m (s .fits .m .fits)) (le-of-lt (kept-lt 24 m)))
-
-power-requires : tie.Need-power-requires
-power-requires c κs = search needs
 
 returns-2 : tie.Need-returns-2
 returns-2 c =
@@ -105,4 +96,4 @@ returns-2 c =
 pub highest-spec : {M : Type 1} → statement M
 highest-spec =
     tie.close
-    (tie.spec cast-zeros int-to-float-result returns sub-k shr-top int-to-float-top power-requires returns-2)
+    (tie.spec cast-zeros int-to-float-result returns (λ c. search needs) (λ c. search needs) int-to-float-top (λ c κs. search needs) returns-2)

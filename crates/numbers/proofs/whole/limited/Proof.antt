@@ -57,9 +57,6 @@ module _ (n r : ℤ) (f : SFits w64 n) (e : r ≡ pos (bound (toZ w64 (ofZ w64 n
   low-is : toZ w64 (ofZ w64 (pos 0 -ℤ toZ w64 (ofZ w64 r))) ≡ negℤ (pos (bound n))
   low-is = toZ-ofZ w64 (pos 0 -ℤ toZ w64 (ofZ w64 r)) low-fits ∙ low-of
 
-end-requires : tie.Need-end-requires
-end-requires c κs = search needs
-
 sub-low : tie.Need-sub-low
 sub-low c = low-fits (c .before .args .n) (c .end .result) (c .before .fits .n) (c .end .ensures)
 
@@ -86,4 +83,4 @@ returns-3 c =
     z ∙ inside (bound (s .args .n)) (s .args .z) (rw (h, z) at (c .before .if1 .left)) (rw (l, z) at (c .if2 .left))
 
 pub limited-spec : {M : Type 1} → statement M
-limited-spec = tie.close (tie.spec end-requires sub-low returns returns-2 returns-3)
+limited-spec = tie.close (tie.spec (λ c κs. search needs) sub-low returns returns-2 returns-3)

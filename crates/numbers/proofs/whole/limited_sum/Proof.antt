@@ -9,12 +9,6 @@ use Rattle.numbers.specs.WholeLaws.{bound-small, limit-saturated}
 use Rattle.numbers.proofs.whole.limited_sum.Statement.{statement}
 use Rattle.numbers.proofs.whole.limited_sum.Tie as tie
 
-saturated-sum-requires : tie.Need-saturated-sum-requires
-saturated-sum-requires c κs = search needs
-
-limited-requires : tie.Need-limited-requires
-limited-requires c κs = search needs
-
 returns : tie.Need-returns
 returns c =
     let s = c .before .before in
@@ -25,4 +19,4 @@ returns c =
     (limit-saturated (bound (s .args .n)) (s .args .a +ℤ s .args .b) (bound-small (s .args .n) (s .fits .n .sfits)))
 
 pub limited-sum-spec : {M : Type 1} → statement M
-limited-sum-spec = tie.close (tie.spec saturated-sum-requires limited-requires returns)
+limited-sum-spec = tie.close (tie.spec (λ c κs. search needs) (λ c κs. search needs) returns)

@@ -67,8 +67,5 @@ cast-result c =
     let f = toZ-ofZ w64 (c .before .args .z) (c .before .fits .z) in
     rw f (not-below (c .before .args .z) (rw f at (c .if1 .left)) (c .before .fits .z .sfits))
 
-returns-2 : tie.Need-returns-2
-returns-2 c = search needs
-
 pub magnitude-spec : {M : Type 1} → statement M
-magnitude-spec = tie.close (tie.spec sub-less cast-less add-result returns cast-result returns-2)
+magnitude-spec = tie.close (tie.spec sub-less cast-less add-result returns cast-result (λ c. search needs))

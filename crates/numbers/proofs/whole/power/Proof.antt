@@ -1,7 +1,7 @@
 -- `whole::power` is right: for each k the bits of 2 ^ k are k + 127 in the exponent field and nothing beside it.
 use mathlib.Core.Path.{_≡_, refl, sym, ap, _∙_, subst}
 use mathlib.Core.Bool.{Bool, true, false, not, _&&_}
-use Prim.Native.Nat.{ℕ, zero, suc, _+_, _*_, _%_, _^_, _≤_, _<_}
+use Prim.Native.Nat.{ℕ, zero, suc, _+_, _*_, _%_, _^_, _≤_}
 use native.Mathlib.Nat.{mod-eq-of-lt}
 use native.Mathlib.Omega.{arith}
 use borrow.Author.Needs.{needs}
@@ -62,12 +62,6 @@ number : (k : ℕ) → k ≤ 40 → T (not (nanBits binary32 (field k)))
 unfolding right
 number k h = and-r (fits binary32 (two k) && eqb (toBits binary32 (two k)) (field k)) (not (nanBits binary32 (field k))) (right-at k h)
 
-add-result : tie.Need-add-result
-add-result c = search needs
-
-cast-result : tie.Need-cast-result
-cast-result c = search needs
-
 float-from-bits-result : tie.Need-float-from-bits-result
 float-from-bits-result c = rw (shifted (c .args .k) (c .pre)) (number (c .args .k) (c .pre))
 
@@ -76,4 +70,4 @@ unfolding two
 returns c = rw (shifted (c .args .k) (c .pre)) (reads (c .args .k) (c .pre))
 
 pub power-spec : {M : Type 1} → statement M
-power-spec = tie.close (tie.spec add-result cast-result float-from-bits-result returns)
+power-spec = tie.close (tie.spec (λ c. search needs) (λ c. search needs) float-from-bits-result returns)

@@ -34,12 +34,6 @@ unfolding highest24ℤ
 not-below (pos k) n = refl
 not-below (negsuc k) n = absurd (true≢false n)
 
-magnitude-requires : tie.Need-magnitude-requires
-magnitude-requires c κs = search needs
-
-highest-requires : tie.Need-highest-requires
-highest-requires c κs = search needs
-
 returns : tie.Need-returns
 returns c =
     let s = c .before .before .before in
@@ -53,4 +47,4 @@ returns-2 c =
     rw (c .before .highest .ensures, c .before .before .magnitude .ensures, f) (not-below (s .args .total) (rw f at (c .if1 .left)))
 
 pub value-of-spec : {M : Type 1} → statement M
-value-of-spec = tie.close (tie.spec magnitude-requires highest-requires returns returns-2)
+value-of-spec = tie.close (tie.spec (λ c κs. search needs) (λ c κs. search needs) returns returns-2)

@@ -9,24 +9,6 @@ use borrow.Author.Needs.{needs}
 use Rattle.script.proofs.answers.put_bytes.Statement.{statement}
 use Rattle.script.proofs.answers.put_bytes.Tie as tie
 
-slice-aggregate-put-bytes : tie.Need-slice-aggregate-put-bytes
-slice-aggregate-put-bytes c = search needs
-
-put-bytes-requires : tie.Need-put-bytes-requires
-put-bytes-requires c κs = search needs
-
-put-row-requires : tie.Need-put-row-requires
-put-row-requires c κs = search needs
-
-slice-aggregate-put-bytes-2 : tie.Need-slice-aggregate-put-bytes-2
-slice-aggregate-put-bytes-2 c = search needs
-
-put-bytes-requires-2 : tie.Need-put-bytes-requires-2
-put-bytes-requires-2 c κs = search needs
-
-same-length : tie.Need-same-length
-same-length c = search needs
-
 returns : tie.Need-returns
 unfolding placeAfterAll allPut
 returns c =
@@ -43,10 +25,10 @@ pub put-bytes-spec : {M : Type 1} → statement M
 put-bytes-spec =
     tie.close
     (tie.spec
-    slice-aggregate-put-bytes
-    put-bytes-requires
-    put-row-requires
-    slice-aggregate-put-bytes-2
-    put-bytes-requires-2
-    same-length
+    (λ c. search needs)
+    (λ c κs. search needs)
+    (λ c κs. search needs)
+    (λ c. search needs)
+    (λ c κs. search needs)
+    (λ c. search needs)
     returns)

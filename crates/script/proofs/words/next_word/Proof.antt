@@ -5,12 +5,6 @@ use borrow.Author.Needs.{needs}
 use Rattle.script.proofs.words.next_word.Statement.{statement}
 use Rattle.script.proofs.words.next_word.Tie as tie
 
-spaces-end-requires : tie.Need-spaces-end-requires
-spaces-end-requires c κs = search needs
-
-word-end-requires : tie.Need-word-end-requires
-word-end-requires c κs = search needs
-
 returns : tie.Need-returns
 returns c =
     let a = c .before .before .before .args in
@@ -19,4 +13,4 @@ returns c =
     next-word (now (a .line)) (a .at) (c .before .spaces-end .result) (c .word-end .result) (w .0) (w .1) (s .2) (w .2) (s .3) (w .3)
 
 pub next-word-spec : {M : Type 1} → statement M
-next-word-spec = tie.close (tie.spec spaces-end-requires word-end-requires returns)
+next-word-spec = tie.close (tie.spec (λ c κs. search needs) (λ c κs. search needs) returns)

@@ -9,9 +9,6 @@ use borrow.Author.Needs.{needs}
 use Rattle.script.proofs.words.number.Statement.{statement}
 use Rattle.script.proofs.words.number.Tie as tie
 
-number-in-requires : tie.Need-number-in-requires
-number-in-requires c κs = search needs
-
 returns : tie.Need-returns
 unfolding numberOf numberIn
 returns c =
@@ -19,4 +16,4 @@ returns c =
     rw (le-leb (a .from) (a .to) (omega arith), le-leb (a .to) (length (now (a .line))) (omega arith)) at (c .number-in .ensures)
 
 pub number-spec : {M : Type 1} → statement M
-number-spec = tie.close (tie.spec number-in-requires returns)
+number-spec = tie.close (tie.spec (λ c κs. search needs) returns)

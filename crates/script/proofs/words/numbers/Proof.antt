@@ -1,5 +1,5 @@
 -- `script::words::numbers` meets its contract. The loop's invariant: the limits and words to come fit if all do, and the values stored with those to come are all; the measure is what is left of the limits.
-use Prim.Native.Nat.{_+_, _-_, _≤_, _<_}
+use Prim.Native.Nat.{_-_, _≤_, _<_}
 use mathlib.Core.Path.{_≡_, refl, _∙_}
 use mathlib.Core.Bool.{_&&_, and-assoc}
 use mathlib.Core.List.{_++_}

@@ -3,8 +3,7 @@ use Prim.Native.Nat.{_≤_, _-_}
 use mathlib.Core.Path.{_≡_, refl, _∙_}
 use native.Mathlib.Omega.{arith}
 use borrow.Author.Tests.{ne-eqb}
-use borrow.Author.Needs.{needs}
-use lib.ListN.{length, drop, getD}
+use lib.ListN.{length, drop}
 use denote.Ref.{now}
 use Rattle.script.specs.Words.{wordsOf}
 use Rattle.script.specs.Laws.{space-passed}

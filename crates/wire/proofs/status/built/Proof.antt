@@ -6,20 +6,11 @@ use borrow.Author.Needs.{needs}
 use Rattle.wire.proofs.status.built.Statement.{statement}
 use Rattle.wire.proofs.status.built.Tie as tie
 
-quality-number-requires : tie.Need-quality-number-requires
-quality-number-requires c κs = search needs
-
 mul-result : tie.Need-mul-result
 mul-result c = omega (arith, quality-below (c .before .args .s .quality), limits-below (c .before .args .s .limits))
 
-mul-result-2 : tie.Need-mul-result-2
-mul-result-2 c = search needs
-
 add-result : tie.Need-add-result
 add-result c = omega (arith, quality-below (c .before .before .args .s .quality), limits-below (c .before .before .args .s .limits))
-
-limits-number-requires : tie.Need-limits-number-requires
-limits-number-requires c κs = search needs
 
 add-result-2 : tie.Need-add-result-2
 add-result-2 c = omega (arith, quality-below (c .before .before .before .args .s .quality), limits-below (c .before .before .before .args .s .limits))
@@ -32,10 +23,10 @@ pub built-spec : {M : Type 1} → statement M
 built-spec =
     tie.close
     (tie.spec
-    quality-number-requires
+    (λ c κs. search needs)
     mul-result
-    mul-result-2
+    (λ c. search needs)
     add-result
-    limits-number-requires
+    (λ c κs. search needs)
     add-result-2
     returns)

@@ -4,15 +4,9 @@ use borrow.Author.Needs.{needs}
 use Rattle.wire.proofs.status.split.Statement.{statement}
 use Rattle.wire.proofs.status.split.Tie as tie
 
-quality-case-requires : tie.Need-quality-case-requires
-quality-case-requires c κs = search needs
-
-limits-case-requires : tie.Need-limits-case-requires
-limits-case-requires c κs = search needs
-
 returns : tie.Need-returns
 unfolding splitOf
 returns c = rw (c .limits-case .ensures, c .before .quality-case .ensures)
 
 pub split-spec : {M : Type 1} → statement M
-split-spec = tie.close (tie.spec quality-case-requires limits-case-requires returns)
+split-spec = tie.close (tie.spec (λ c κs. search needs) (λ c κs. search needs) returns)
