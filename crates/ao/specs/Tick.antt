@@ -36,9 +36,12 @@ outOf s w = cond (finite (scaledOut s w)) (some (bitsOf (scaledOut s w))) none
 unfoldable pub givenBy : Settings → ℕ → Case Float → GivenOf ℕ
 givenBy s old c = leadsTo (outOf s) old c
 
--- in Auto and RCas, by the input that the mode uses
+-- in Auto and RCas, by the input that the mode uses: the case, and what it gives
+abbrev pub caseBy : Settings → Input → Case Float
+caseBy s input = caseOf (s .«fsafe_time») (s .«fsafe_type») (s .«fsafe_value») (inputOf input)
+
 unfoldable pub givenByInput : Settings → ℕ → Input → GivenOf ℕ
-givenByInput s old input = givenBy s old (caseOf (s .«fsafe_time») (s .«fsafe_type») (s .«fsafe_value») (inputOf input))
+givenByInput s old input = givenBy s old (caseBy s input)
 
 -- "Auto uses SP, RCas RCAS_IN"; a code that is no mode's, which no write stores, counts as Auto
 unfoldable pub inputUsed : State → ℕ → Input

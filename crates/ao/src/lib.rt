@@ -1,10 +1,10 @@
 // AO, the analog output block (paper 01, "AO tick"): setpoint telegrams on two inputs, fail-safe, scaling, and the
 // order that drives the valve.
 ghost use mathlib.Core.Path.{_≡_};
-ghost use Rattle.ao.specs.FailSafe.{classOf, silenceAfter, failSafeActs, failSafeCase, caseOf, positioned, scaledOr};
-ghost use Rattle.ao.specs.State.{inputOf, freshState, started, warmStarted, operatedBy, noTelegrams};
+ghost use Rattle.ao.specs.FailSafe.{classOf, silenceAfter, failSafeActs, failSafeCase, positioned, scaledOr};
+ghost use Rattle.ao.specs.State.{freshState, started, warmStarted, operatedBy, noTelegrams};
 ghost use Rattle.ao.specs.Telegram.{inputAfter, takenOn, telegramOf};
-ghost use Rattle.ao.specs.Tick.{scaledOut, outOf, givenBy, inputUsed, givenIn, inputAfterTick, tickOf};
+ghost use Rattle.ao.specs.Tick.{scaledOut, outOf, givenBy, caseBy, inputUsed, givenIn, inputAfterTick, tickOf};
 ghost use Rattle.ao.specs.Code.{ruleCase, givenOf};
 use numbers::floats::bits_of;
 use numbers::floats::float_of;
@@ -274,7 +274,7 @@ fn fail_safe_case(kind: u32, fsafe_value: f32, some: bool, last: f32) -> Case
 
 // The case of a tick in Auto or RCas, by the input that it uses.
 fn case_of(settings: Settings, input: Input) -> Case
-    ensures { λ r. ⌜ ruleCase r ≡ caseOf (settings .«fsafe_time») (settings .«fsafe_type») (settings .«fsafe_value») (inputOf input) ⌝ }
+    ensures { λ r. ⌜ ruleCase r ≡ caseBy settings input ⌝ }
 {
     let acts = fail_safe_acts(input.some, input.silence, input.ifs, settings.fsafe_time);
     if acts {
@@ -290,7 +290,7 @@ fn case_of(settings: Settings, input: Input) -> Case
 
 // The case by SP, or in RCas by RCAS_IN.
 fn case_in(settings: Settings, state: State, mode: u32) -> Case
-    ensures { λ r. ⌜ ruleCase r ≡ caseOf (settings .«fsafe_time») (settings .«fsafe_type») (settings .«fsafe_value») (inputOf (inputUsed state mode)) ⌝ }
+    ensures { λ r. ⌜ ruleCase r ≡ caseBy settings (inputUsed state mode) ⌝ }
 {
     let sp = state.sp;
     let rcas_in = state.rcas_in;

@@ -170,15 +170,6 @@ module _ (number n : ℕ) (other : eqb number n ≡ false) where
       go true e = ap (λ (q : Bool). g (cond q x y)) (subst (λ (m : ℕ). eqb number m ≡ false) (eqb-true n k e) other)
       go false e = refl
 
-  keep-code : (k x y : ℕ) (rest : Words) → cond (eqb n k) (code (cond (eqb number k) x y)) rest ≡ cond (eqb n k) (code y) rest
-  keep-code = keep code
-
-  keep-float : (k : ℕ) (x y : Float) (rest : Words) → cond (eqb n k) (float (cond (eqb number k) x y)) rest ≡ cond (eqb n k) (float y) rest
-  keep-float = keep float
-
-  keep-ends : (k : ℕ) (x y : Scale) (rest : Words) → cond (eqb n k) (ends (cond (eqb number k) x y)) rest ≡ cond (eqb n k) (ends y) rest
-  keep-ends = keep ends
-
   keep-rev : (counted : Bool) (rev : ℕ) (rest : Words) → (eqb n 1 && counted) ≡ false → cond (eqb n 1) (code (revAfter counted rev)) rest ≡ cond (eqb n 1) (code rev) rest
   unfolding revAfter
   keep-rev counted rev rest = go _ (eqb n 1) counted
@@ -191,15 +182,15 @@ module _ (number n : ℕ) (other : eqb number n ≡ false) where
   module _ (a b : ℕ) where
     ain-kept : (s : AinBlock) → eqb number 10 ≡ false → (eqb n 1 && isStatic 1 number) ≡ false → ainWords (ainWritten s number a b) n ≡ ainWords s n
     unfolding ainWords ainWritten ainSettings
-    ain-kept s o r = simp (o, keep-rev (isStatic 1 number), keep-code, keep-float, keep-ends)
+    ain-kept s o r = simp (o, keep-rev (isStatic 1 number), keep code, keep float, keep ends)
 
     tot-kept : (s : TotBlock) → eqb number 10 ≡ false → (eqb n 1 && isStatic 2 number) ≡ false → totWords (totWritten s number a b) n ≡ totWords s n
     unfolding totWords totWritten totSettings
-    tot-kept s o r = simp (o, keep-rev (isStatic 2 number), keep-code, keep-float)
+    tot-kept s o r = simp (o, keep-rev (isStatic 2 number), keep code, keep float)
 
     ao-kept : (s : AoBlock) → eqb number 37 ≡ false → (eqb n 1 && isStatic 3 number) ≡ false → aoWords (aoWritten s number a b) n ≡ aoWords s n
     unfolding aoWords aoWritten aoSettings
-    ao-kept s o r = simp (o, keep-rev (isStatic 3 number), keep-code, keep-float, keep-ends)
+    ao-kept s o r = simp (o, keep-rev (isStatic 3 number), keep code, keep float, keep ends)
 
     lock-kept : (d : Device) → T (storedEntry (entryOf 0 number)) → readOf (storedIn d 0 number a b) 0 n ≡ readOf d 0 n
     unfolding readOf wordsOf storedIn entryOf entryIn physical
