@@ -9,6 +9,7 @@ import os
 import queue
 import re
 import shutil
+import signal
 import subprocess
 import sys
 import tempfile
@@ -303,3 +304,16 @@ class Progress:
             self.shown = now
             left = (now - self.began) / (self.done - self.before) * (self.total - self.done)
             print("%s: %d of %d, some %d s left" % (self.what, self.done, self.total, left), file=sys.stderr, flush=True)
+
+
+def run(name, main):
+    """Runs a program's main; what is temporary is removed when it is stopped, too."""
+    signal.signal(signal.SIGTERM, lambda *_: sys.exit(143))
+    try:
+        sys.exit(main(sys.argv[1:]))
+    except Stop as stop:
+        print("%s: %s" % (name, stop), file=sys.stderr)
+        sys.exit(2)
+    except KeyboardInterrupt:
+        print("%s: stopped" % name, file=sys.stderr)
+        sys.exit(130)
