@@ -18,6 +18,7 @@ import time
 
 ROOT = os.path.dirname(os.path.dirname(os.path.abspath(__file__)))
 PARTS = ("src", "specs", "proofs")
+LIMIT = 600  # seconds after which a check is given up
 
 
 class Stop(Exception):
@@ -70,17 +71,18 @@ def below(crate):
 
 # An error that says no more than that a declaration rests on one which was refused.
 RESTS = re.compile(r"was not admitted \(it has holes")
-# A proof that cites what is not there any more: it shows nothing about the contract.
-UNNAMED = re.compile(r"has no field `|can be named from here|not in scope|expected type `tie\.Need-")
+# A proof that cites what is not there any more, or whose parts are not those that are asked for, as told of the declaration that
+# puts them together: it shows nothing about the contract.
+UNNAMED = re.compile(r"^`[^`]*-spec`: |has no field `|can be named from here|not in scope|expected type `tie\.Need-")
 # The front end's errors have a code, as error[unknown-name]; antt's have none.
-ERROR = re.compile(r"(?P<crate>\w+)/(?P<file>\S+?):(?P<line>\d+):\d+: error(?P<code>\[\S+\])?: (?P<text>.*)")
+ERROR = re.compile(r"(?P<crate>\w+)/(?P<file>\S+?):(?P<line>\d+):(?P<column>\d+): error(?P<code>\[\S+\])?: (?P<text>.*)")
 
 
 class Error:
     """One error: where it is, the declaration that it names, and its ground: rests, unnamed, code or fact."""
 
     def __init__(self, match, more):
-        self.crate, self.file, self.line = match["crate"], match["file"], int(match["line"])
+        self.crate, self.file, self.line, self.column = match["crate"], match["file"], int(match["line"]), int(match["column"])
         text = match["text"] + more
         name = re.match(r"`([^`]*)`: ", text)
         self.declaration = name[1] if name else "?"
@@ -121,18 +123,25 @@ class Report:
         places = [error.place() for error in self.errors if error.ground == "fact" and function in (None, error.function)]
         for name, verdict in self.functions.items():
             if "does not close" in verdict and function in (None, name):
-                places.append("%s, need%s" % (name, verdict.partition("does not close")[2].replace("`", "")))
+                places.append("%s, need%s" % (name, verdict.partition("does not close")[2].partition(";")[0].replace("`", "")))
         return places
 
-    def why_not(self):
+    def stray(self, changed):
+        """Whether a fact fails beside the changed functions: then one change has told upon another's proof."""
+        return len(self.facts()) > sum(len(self.facts(function)) for function in changed)
+
+    def unnamed(self, function=None):
+        """The errors of proofs that do not fit."""
+        return [error for error in self.errors if error.ground == "unnamed" and function in (None, error.function)]
+
+    def why_not(self, unnamed=None):
         """Why a log without a failing fact shows nothing."""
         if self.proved:
             return "NOT REFUSED: still proved"
         if not self.refused:
             return "it does not reach the prover: " + self.last()
-        for error in self.errors:
-            if error.ground == "unnamed":
-                return "no fact fails: a proof cites what is not there, at " + error.place()
+        for error in unnamed or self.unnamed():
+            return "no fact fails: the proof does not fit, at " + error.place()
         return "no fact fails: only callers are refused"
 
 
@@ -194,10 +203,14 @@ class Bench:
     def run(self, folder, top, sources, incremental):
         words, environment = self.kit.words(folder, top, sources, incremental), dict(os.environ, TMPDIR=self.folder)
         began = time.time()
-        done = subprocess.run(words, stdout=subprocess.PIPE, stderr=subprocess.STDOUT, stdin=subprocess.DEVNULL, env=environment)
+        try:
+            done = subprocess.run(words, stdout=subprocess.PIPE, stderr=subprocess.STDOUT, stdin=subprocess.DEVNULL, env=environment, timeout=LIMIT)
+            status, log = done.returncode, done.stdout
+        except subprocess.TimeoutExpired as late:
+            status, log = 3, (late.stdout or b"") + b"\nno verdict after %d s\n" % LIMIT
         what = top if len(sources) == 1 else "%s with what it uses" % top
         self.seconds.setdefault(what, []).append(time.time() - began)
-        return Report(done.returncode, done.stdout.decode("utf-8", "replace"), folder)
+        return Report(status, log.decode("utf-8", "replace"), folder)
 
     def copy(self, folder, crates):
         for crate in crates:
@@ -241,7 +254,7 @@ class Worker:
         self.bench, self.folder = bench, os.path.join(bench.folder, "worker-%d" % number)
 
     def check(self, top, sources, texts):
-        """The report with some files replaced: texts maps `crate/part/..` to a text."""
+        """The report with some files replaced: texts maps `crate/part/..` to a text, or to None for a file that is taken away."""
         base = self.bench.base(top, sources)
         self.bench.copy(self.folder, [crate for crate in sources if not os.path.isdir(os.path.join(self.folder, crate))])
         incremental = os.path.join(self.folder, ".incremental")
@@ -251,7 +264,10 @@ class Worker:
         for path, text in texts.items():
             place = os.path.join(self.folder, path)
             before[place] = read(place)
-            write(place, text)
+            if text is None:
+                os.remove(place)
+            else:
+                write(place, text)
         try:
             return self.bench.run(self.folder, top, sources, incremental)
         finally:
@@ -306,11 +322,18 @@ class Progress:
             print("%s: %d of %d, some %d s left" % (self.what, self.done, self.total, left), file=sys.stderr, flush=True)
 
 
-def run(name, main):
-    """Runs a program's main; what is temporary is removed when it is stopped, too."""
+def run(name, main, options, text):
+    """Runs main(words, options given); what is temporary is removed when it is stopped, too."""
     signal.signal(signal.SIGTERM, lambda *_: sys.exit(143))
+    words = sys.argv[1:]
+    given = {word for word in words if word.startswith("-")}
     try:
-        sys.exit(main(sys.argv[1:]))
+        if given & {"-h", "--help"}:
+            print(text.strip())
+            sys.exit(0)
+        if given - set(options):
+            raise Stop("no option %s; --help tells what there is" % min(given - set(options)))
+        sys.exit(main([word for word in words if word not in given], given))
     except Stop as stop:
         print("%s: %s" % (name, stop), file=sys.stderr)
         sys.exit(2)

@@ -3,10 +3,12 @@
 A place is (path, start, end), where path is `crate/part/..` below crates/.
 """
 
+import glob
 import os
 
 import prover
 from mutants import places
+
 
 def place(path):
     return os.path.join(prover.ROOT, "crates", path)
@@ -14,6 +16,11 @@ def place(path):
 
 def text_of(path):
     return prover.read(place(path))
+
+
+def texts_of(crate):
+    """The texts of a crate's source files."""
+    return [prover.read(path) for path in sorted(glob.glob(place(crate + "/src/**/*.rt"), recursive=True))]
 
 
 def module_of(path):

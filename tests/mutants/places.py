@@ -2,9 +2,9 @@
 """Makes every mutant of one place in the function bodies of a library crate.
 
 A mutant is a small wrong change: a number one up or down, an operator or a comparison exchanged, a condition negated, two
-arguments or two fields of one type exchanged, a statement or an arm dropped. Signatures, contracts, types and declarations
-stay as they are; of a constant only its numbers change. Types are worked out as far as it takes to exchange like for like, so
-that nearly every mutant compiles.
+arguments or two fields of one type exchanged, an assignment, a return or an arm dropped or made another's. Signatures,
+contracts, types and declarations stay as they are; of a constant only its numbers change. Types are worked out as far as it
+takes to exchange like for like, so that nearly every mutant compiles.
 
     python3 tests/mutants/places.py [CRATE..]       how many there are, by crate and kind
     python3 tests/mutants/places.py --list CRATE    the name of each
@@ -308,7 +308,8 @@ def octets(text, kind):
 
 # ---- bodies
 
-Change = namedtuple("Change", "kind start end new label place")
+# alike: a change that does the same and keeps the shape of the function, as (start, end, new), or nothing
+Change = namedtuple("Change", "kind start end new label place alike")
 Arm = namedtuple("Arm", "start end comma tokens names wild")
 
 
@@ -317,11 +318,13 @@ class Body(Reader):
 
     def __init__(self, file, world, of):
         self.text, self.tokens, self.at, self.world, self.of = file.text, file.tokens, of.first, world, of
-        self.changes, self.numbers, self.places = [], [], []
+        self.changes, self.numbers, self.places, self.given, self.assigned, self.tail = [], [], [], [], [], []
         self.locals = {name: self.full(kind) for name, kind in of.parameters}
         same(self.full(of.result), self.block() if self.sees("{") else self.placed(self.expression))
         if self.end not in (of.body_end, of.end - 1):
             raise SyntaxError("%s ends before its end" % of.name)
+        self.others("return", self.given + self.tail)
+        self.others("assignment", self.assigned)
         for token, kind in self.numbers:
             for new in {"int": wholes, "float": floats}.get(token.kind, octets)(token.text, known(kind)):
                 self.change("number", token.start, token.end, new)
@@ -335,11 +338,11 @@ class Body(Reader):
         self.places.append((start, self.end))
         return given
 
-    def change(self, kind, start, end, new, label=None, place=None):
-        self.changes.append(Change(kind, start, end, new, label, place))
+    def change(self, kind, start, end, new, label=None, place=None, alike=None):
+        self.changes.append(Change(kind, start, end, new, label, place, alike))
 
-    def drop(self, kind, start, end, new=""):
-        self.change(kind, start, end, new, "dropped", (start, end))
+    def drop(self, kind, start, end, new="", alike=None):
+        self.change(kind, start, end, new, "dropped", (start, end), alike)
 
     def exchange(self, token):
         sign, equals = (token.text[:-1], "=") if token.text in ASSIGNMENTS else (token.text, "")
@@ -347,17 +350,27 @@ class Body(Reader):
             for new in table.get(sign, "").split():
                 self.change(kind, token.start, token.end, new + equals)
 
+    def others(self, kind, values):
+        """Of the values that are returned, or assigned, each is made the next one that says something else."""
+        for at, (start, end) in enumerate(values):
+            texts = [self.text[slice(*value)] for value in values[at:] + values[:at]]
+            for new in [text for text in texts if text.split() != texts[0].split()][:1]:
+                self.change(kind, start, end, new)
+
     # -- statements
 
     def block(self):
-        """Gives the last expression's type; self.returns are the statements that return, self.alone is whether that is all."""
-        outer, returns, count, kind = dict(self.locals), [], 0, None
+        """Gives the last expression's type; self.returns are the statements that return, self.alone is whether that is all,
+        self.tail where the last expression is, if it is a plain one."""
+        outer, returns, count, kind, tail = dict(self.locals), [], 0, None, []
         self.take("{")
         while not self.passes("}"):
             start, leaves = self.token.start, self.sees("return")
+            plain = not self.sees("let", "return", "{", "if", "match", "while", "loop", "for")
             kind, count = self.statement(), count + 1
+            tail = [(start, self.end)] if plain and self.text[self.end - 1] != ";" else []
             returns += [(start, self.end)] if leaves else []
-        self.locals, self.returns, self.alone = outer, returns, len(returns) == count == 1
+        self.locals, self.returns, self.alone, self.tail = outer, returns, len(returns) == count == 1, tail
         return kind
 
     def statement(self):
@@ -369,9 +382,9 @@ class Body(Reader):
         if self.sees("{", "if", "match", "while", "loop", "for"):
             kind = self.primary()
         else:
-            kind, assigns = self.placed(self.effect)
-            if assigns:
-                self.drop("assignment", start, self.token.end if self.sees(";") else self.end)
+            kind, idle = self.placed(self.effect)
+            if idle:
+                self.drop("assignment", start, self.token.end if self.sees(";") else self.end, alike=idle)
         return None if self.passes(";") else kind
 
     def let(self, start):
@@ -390,27 +403,33 @@ class Body(Reader):
         self.locals.update(names)
 
     def effect(self):
-        """An expression or an assignment; gives the type, and whether it assigns."""
-        kind = self.expression()
+        """An expression or an assignment; gives the type, and of an assignment a change by which it assigns what was there."""
+        left = self.token.start
+        kind, place = self.expression(), self.text[left : self.end]
         if self.token.text not in ASSIGNMENTS:
-            return kind, False
+            return kind, None
         self.exchange(self.take())
+        start = self.token.start
         same(kind, self.expression())
-        return None, True
+        self.assigned.append((start, self.end))
+        return None, (left, self.end, "%s = %s" % (place, place))
 
     def condition(self):
+        """Gives a change by which it never holds; none for a pattern."""
         matched = self.passes("let")
         if matched:
             self.locals.update(self.pattern(None))
             self.take("=")
         self.placed(self.expression)
-        if not matched:
-            place = self.places[-1]
-            self.change("negation", *place, "!(%s)" % self.text[slice(*place)], "negated", place)
+        place = self.places[-1]
+        if matched:
+            return None
+        self.change("negation", *place, "!(%s)" % self.text[slice(*place)], "negated", place)
+        return (*place, "(%s) & false" % self.text[slice(*place)])
 
     def choice(self, chained=False):
         start = self.take("if").start
-        self.condition()
+        never = self.condition()
         then = self.token.start
         kind = self.block()
         then = self.text[then : self.end]
@@ -421,7 +440,7 @@ class Body(Reader):
                 self.change("branch", start, self.end, branch, "only " + short(branch, 60), (start, self.end))
         else:
             for place in [(start, self.end)] if self.alone and not chained else self.returns:
-                self.drop("return", *place)
+                self.drop("return", *place, alike=never if place[0] == start else None)
         return kind
 
     def loop(self):
@@ -447,8 +466,8 @@ class Body(Reader):
         self.take("{")
         arms = [self.arm(subject, kind) for _ in self.listed("}")]
         for at, arm in enumerate(arms):
-            if not arm.wild and any(other.wild for other in arms):
-                self.drop("arm", arm.start, arm.end + arm.comma)
+            for wild in [other for other in arms if other.wild and not arm.wild]:
+                self.drop("arm", arm.start, arm.end + arm.comma, alike=(*self.body_of(arm), self.body_for(arm, wild)))
             self.other_body(arm, arms[at + 1 :] + arms[:at])
         return kind
 
@@ -458,10 +477,10 @@ class Body(Reader):
         self.locals.update(names)
         self.take("=>")
         first, body = self.at, self.token.start
-        value, assigns = (self.block(), False) if self.sees("{") else self.effect()
+        value, idle = (self.block(), None) if self.sees("{") else self.effect()
         same(kind, value)
-        if assigns:
-            self.drop("assignment", body, self.end, "{}")
+        if idle:
+            self.drop("assignment", body, self.end, "{}", alike=idle)
         self.locals = outer
         self.places.append((start, self.end))
         comma = self.token.end - self.end if self.sees(",") else 0
@@ -469,14 +488,21 @@ class Body(Reader):
 
     def other_body(self, arm, others):
         """The body of the next arm that says something else and needs no name that this arm has not."""
-        start = arm.tokens[0].start
         for other in others:
             used = {token.text for before, token in zip([None] + other.tokens, other.tokens) if not before or before.text != "."}
             missing = [name for name, kind in other.names.items() if name in used and known(arm.names.get(name)) != known(kind)]
-            new = self.text[other.tokens[0].start : other.end]
-            if new.split() != self.text[start : arm.end].split() and not missing:
-                self.change("arm", start, arm.end, new + ("" if new[0] == "{" or arm.comma else ","))
+            bodies = [self.text[slice(*self.body_of(one))].split() for one in (arm, other)]
+            if bodies[0] != bodies[1] and not missing:
+                self.change("arm", *self.body_of(arm), self.body_for(arm, other))
                 return
+
+    def body_of(self, arm):
+        return arm.tokens[0].start, arm.end
+
+    def body_for(self, arm, other):
+        """Another arm's body as it stands in this one."""
+        new = self.text[slice(*self.body_of(other))]
+        return new + ("" if new[0] == "{" or arm.comma else ",")
 
     def pattern(self, kind):
         """Gives the names that the pattern binds, with their types."""
@@ -579,7 +605,9 @@ class Body(Reader):
             return self.take() and "bool"
         if text in ("return", "break", "continue"):
             self.take()
+            start = self.token.start
             value = None if self.sees(";", ",", "}") else self.expression()
+            self.given += [(start, self.end)] if text == "return" and self.end > start else []
             return same(self.full(self.of.result) if text == "return" else None, value)
         readers = {"(": self.bracketed, "[": self.bracketed, "{": self.block, "if": self.choice, "match": self.match}
         return self.loop() if text in ("while", "for", "loop") else readers.get(text, self.named)()
@@ -649,14 +677,15 @@ def short(text, length):
 
 
 class Mutant:
-    """A change of a crate's file: new in place of old, from start to end. function is None for one of a constant."""
+    """A change of a crate's file: new in place of old, from start to end; of a function or of a constant."""
 
     def __init__(self, file, text, of, change, places):
         self.file, self.kind, self.start, self.end, self.new = file, change.kind, change.start, change.end, change.new
         self.old = text[self.start : self.end]
-        self.function = of.name if of.body_start is not None else None
+        self.function, self.constant = (of.name, None) if of.body_start is not None else (None, of.name)
         around = [place for place in places if place[0] <= self.start and self.end <= place[1]]
         place = change.place or min(around, key=lambda place: place[1] - place[0])
+        self.alike = change.alike
         label = change.label or "%s -> %s" % (short(self.old, 60), short(self.new, 60))
         self.name = '%s%s: %s in "%s"' % ("" if self.function else "const ", of.name, label, short(text[slice(*place)], 100))
 
@@ -735,9 +764,11 @@ CASES = [
     ("field", "fn f(e: E) -> u8", "match e { E::C(p, _) => p.b, _ => g(0, true, 1).c }", "match e { E::C(p, _) => p.a, _ => g(0, true, 1).c }"),
     ("field", "fn f(a: u8) -> P", "P { a, b: 2, c: true }", "P { a: 2, b: a, c: true }"),
     ("assignment", "fn f(mut p: P, s: &mut [u8])", "let mut i = 0; p.a = 1; s[i] += 2;", "let mut i = 0;  s[i] += 2;", "let mut i = 0; p.a = 1; "),
+    ("assignment", "fn f(mut p: P, x: u8)", "p.a = x; p.b = 9;", " p.b = 9;", "p.a = x; ", "p.a = 9; p.b = 9;", "p.a = x; p.b = x;"),
     ("assignment", "fn f(mut p: P, x: u8)", "match x { 1 => p.a = 1, _ => {} }", "match x { 1 => {}, _ => {} }"),
     ("return", "fn f(x: u8) -> u8", "if x < 1 { return 1; } if x < 2 { h(x); return 3; } x", " if x < 2 { h(x); return 3; } x",
-        "if x < 1 { return 1; } if x < 2 { h(x);  } x"),
+        "if x < 1 { return 1; } if x < 2 { h(x);  } x", "if x < 1 { return 3; } if x < 2 { h(x); return 3; } x",
+        "if x < 1 { return 1; } if x < 2 { h(x); return x; } x", "if x < 1 { return 1; } if x < 2 { h(x); return 3; } 1"),
     ("branch", "fn f(x: u8) -> u8", "if x < 1 { 1 } else { x }", "{ 1 }", "{ x }"),
     ("arm", "fn f(e: E) -> u8", "match e { E::A => { 0 } E::B(x) => x, _ => 1 }", "match e {  E::B(x) => x, _ => 1 }",
         "match e { E::A => { 0 }  _ => 1 }", "match e { E::A => 1, E::B(x) => x, _ => 1 }", "match e { E::A => { 0 } E::B(x) => 1, _ => 1 }",
