@@ -192,6 +192,7 @@ class Bench:
         self.room = temporary()
         self.folder = self.room.name
         self.bases, self.locks, self.seconds = {}, {}, {}
+        self.running, self.stopped = set(), False
         self.name_of_build = self.build()
 
     def __enter__(self):
@@ -200,14 +201,25 @@ class Bench:
     def __exit__(self, *_):
         self.room.cleanup()
 
+    def stop(self):
+        """Ends what runs, and nothing is begun any more."""
+        self.stopped = True
+        for check in list(self.running):
+            check.kill()
+
     def run(self, folder, top, sources, incremental):
         words, environment = self.kit.words(folder, top, sources, incremental), dict(os.environ, TMPDIR=self.folder)
         began = time.time()
+        check = subprocess.Popen(words, stdout=subprocess.PIPE, stderr=subprocess.STDOUT, stdin=subprocess.DEVNULL, env=environment)
+        self.running.add(check)
         try:
-            done = subprocess.run(words, stdout=subprocess.PIPE, stderr=subprocess.STDOUT, stdin=subprocess.DEVNULL, env=environment, timeout=LIMIT)
-            status, log = done.returncode, done.stdout
-        except subprocess.TimeoutExpired as late:
-            status, log = 3, (late.stdout or b"") + b"\nno verdict after %d s\n" % LIMIT
+            log, status = check.communicate(timeout=LIMIT)[0], check.returncode
+        except subprocess.TimeoutExpired:
+            check.kill()
+            log, status = check.communicate()[0] + b"\nno verdict after %d s\n" % LIMIT, 3
+        self.running.discard(check)
+        if self.stopped:
+            raise Stop("stopped")
         what = top if len(sources) == 1 else "%s with what it uses" % top
         self.seconds.setdefault(what, []).append(time.time() - began)
         return Report(status, log.decode("utf-8", "replace"), folder)
@@ -298,8 +310,14 @@ def workers(bench, jobs, work, count=2):
     threads = [threading.Thread(target=run, args=(number,), daemon=True) for number in range(count)]
     for thread in threads:
         thread.start()
-    for thread in threads:
-        thread.join()
+    try:
+        for thread in threads:
+            thread.join()
+    except BaseException as error:  # a signal: the copies are in use until the workers have ended
+        failed.append(error)
+        bench.stop()
+        for thread in threads:
+            thread.join()
     if failed:
         raise failed[0]
 
