@@ -1,4 +1,4 @@
-"""The prover over scratch copies of crates: what tests/edits, tests/trials and tests/mutants share.
+"""The prover over scratch copies of crates: what tests/refusals and tests/mutants share.
 
 A check from nothing proves a whole crate again. Here a crate's copy has an incremental folder, made of the modules that
 `rt check` has just proved, so a change costs the modules that it touches. The checkout's crates are read and never
