@@ -101,7 +101,7 @@ class Report:
 
     def __init__(self, status, log, folder):
         self.log = log.replace(folder + "/", "")
-        lines = self.log.splitlines()
+        lines = self.log.splitlines() or ["nothing was said"]
         self.proved = status == 0 and lines[-1].startswith("logic=proved")
         self.refused = status == 1 and lines[-1].startswith("logic=not-proved")
         self.functions = dict(re.findall(r"^fn (\S+): (.*)$", self.log, re.M))
@@ -115,8 +115,8 @@ class Report:
                 self.errors.append(Error(match, "\n".join(lines[at + 1 : end])))
 
     def last(self):
-        lines = self.log.splitlines()
-        return next((line for line in lines if "error" in line), lines[-1] if lines else "nothing was said")
+        lines = self.log.splitlines() or ["nothing was said"]
+        return next((line for line in lines if "error" in line), lines[-1])
 
     def facts(self, function=None):
         """Where a fact fails: an error of a proof, or a need that the proof which rattle makes itself does not close."""
