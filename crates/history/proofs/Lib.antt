@@ -1,10 +1,13 @@
 pub mod Truth
 pub mod Sound
-pub mod Agrees
+pub mod Lists
+pub mod Ruled
 pub mod Telegrams
 pub mod Ticks
 pub mod TickStep
 pub mod ReadBack
 pub mod Theorem
 pub mod PointsProof
+pub mod CitedProof
 pub mod Run
+pub mod After

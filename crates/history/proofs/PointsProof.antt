@@ -20,7 +20,7 @@ use Rattle.device.specs.Factory.{factoryDevice, ainBy, totBy, aoBy}
 use Rattle.device.specs.Calls.{writeOf, tickOf}
 use Rattle.history.specs.Past.{History, start, count, countSince, since, latest}
 use Rattle.history.specs.Calls.{after, reachedFrom, reached, Event, wrote}
-use Rattle.history.specs.Rules.{stored, standing, accepted, isMet, isStaticWrite, stRev, came, silence, ifs, isFailSafe, isUsableOn, isIfsOn}
+use Rattle.history.specs.Rules.{statics, kepts, outputs, readOnlys, has, defaults, stored, toWrite, isAccepted, answer, accepted, isStaticWrite, stRev, came, silence, ifs, isFailSafe, isUsableOn, isIfsOn}
 use Rattle.history.specs.Points.{again, Points}
 
 -- ---- ST_REV
@@ -43,12 +43,12 @@ abbrev e17 : Event
 e17 = wrote 1 17 1 0
 
 lock-stands : (n : ℕ) → stored (again n e17 start) 0 18 .first ≡ 2457
-unfolding again stored latest Table.defaultOf Table.rowsOf Table.physical Table.defaultIn
+unfolding again stored latest defaults
 lock-stands zero = refl
 lock-stands (suc n) = lock-stands n
 
-met : (n : ℕ) → isMet (again n e17 start) e17 ≡ true
-unfolding ground standing Table.entryOf Table.entryIn Table.ain allowsOf
+met : (n : ℕ) → isAccepted (answer (again n e17 start) e17) ≡ true
+unfolding toWrite has statics kepts outputs readOnlys Table.entryOf Table.entryIn Table.ain allowsOf
 met n = rw (lock-stands n)
 
 all-met : (n : ℕ) → accepted (again n e17 start) ≡ again n e17 start
@@ -67,6 +67,6 @@ points = record {
   e = unfold incrementOf Whole.limit ofInt ofBits mul toSigned in refl;
   f = unfold incrementOf Whole.limit ofInt ofBits mul toSigned in refl;
   g = unfold valueGiven Whole.highest24ℤ Whole.highestBits ofInt div lib.Ieee.size in refl;
-  h = λ fault₁ fault₂ fault₃ ain₁ ain₂ ain₃ tot₁ tot₂ tot₃ w₁ w₂ w₃ x₁ x₂ x₃ o₁ o₂ o₃. unfold isFailSafe came since silence countSince ifs isUsableOn isIfsOn pairOf stored latest ofBits in (refl, refl, refl, refl);
-  i = (all-met 65536, rev-law 1 e17 start 65536 (unfold Table.isStatic Table.entryOf Table.entryIn Table.ain in refl) ∙ unfold count in refl);
+  h = λ fault₁ fault₂ fault₃ ain₁ ain₂ ain₃ tot₁ tot₂ tot₃ w₁ w₂ w₃ x₁ x₂ x₃ o₁ o₂ o₃. unfold isFailSafe came since silence countSince ifs isUsableOn isIfsOn pairOf stored latest defaults ofBits in (refl, refl, refl, refl);
+  i = (all-met 65536, rev-law 1 e17 start 65536 (unfold statics in refl) ∙ unfold count in refl);
 }

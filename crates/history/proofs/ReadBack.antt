@@ -1,30 +1,36 @@
--- What reads give of a device that agrees with the rules. Assumes nothing.
-use Prim.Native.Nat.{ℕ, _<_, _^_}
-use mathlib.Core.Path.{_≡_, refl, sym, ap, _∙_, subst}
-use mathlib.Core.Bool.{Bool, true, false, _&&_}
+-- What reads give of the device by the rules is the rules' reading, and its image is that of the rules' pairs. Assumes nothing.
+use Prim.Native.Nat.{ℕ, _<_, _≤_, _^_, _+_, _*_}
 use native.Mathlib.Omega.{arith}
-use lib.Dec.{T, eqb, ltb, ltb→lt}
+use mathlib.Core.Path.{_≡_, refl, sym, ap, _∙_, subst}
+use mathlib.Core.Bool.{Bool, true, false, not, _&&_, cond, true≢false}
+use mathlib.Core.List.{List, _++_}
+use lib.Dec.{T, leb, leb→le, le→leb, ltb, ltb→lt}
 use lib.Ieee.Fits.{and-l, and-r}
+use borrow.Author.Tests.{ltb-true, ltb-false}
+use lib.ListN.{length, drop}
+use Rattle.wire.specs.declared.Answer.the-variants.{Accepted}
+use Rattle.wire.specs.Bytes.{fiveBytes}
+use Rattle.wire.specs.Image.{imageAnswer, imageBytes}
 use Rattle.parameters.specs.declared.Words.{Words}
 use Rattle.parameters.specs.declared.Class.the-variants.{S, N, D, R}
 use Rattle.parameters.specs.declared.Allowed.{Allowed}
 use Rattle.parameters.specs.declared.Entry.{Entry}
 use Rattle.parameters.specs.declared.Entry.the-variants.{NoBlock, NoParameter, Parameter}
-use Rattle.parameters.specs.Table.{words, entryIn, entryOf}
+use Rattle.parameters.specs.Table.{entryOf}
 use Rattle.parameters.specs.Words.{allowsOf}
 use Rattle.parameters.specs.Refused.{storedEntry}
 use Rattle.parameters.specs.Laws.{by-rows, _also_, shown, shownBy, shown-back}
 use Rattle.parameters.specs.Table as Table
-use Rattle.ain.specs.declared.Alarms.{Alarms}
-use Rattle.device.specs.declared.Device.{Device}
+use Rattle.device.specs.declared.Reading.{Reading}
 use Rattle.device.specs.declared.Reading.the-variants.{Read}
-use Rattle.device.specs.Factory.{ainBy, totBy, aoBy}
-use Rattle.device.specs.Read.{alarmByte, ainWords, totWords, aoWords, wordsOf, readOf, readBy}
+use Rattle.device.specs.Read.{bit, alarmByte, ainWords, totWords, aoWords, wordsOf, readOf, readBy}
 use Rattle.history.specs.Past.{History}
-use Rattle.history.specs.Calls.{Event}
-use Rattle.history.specs.Rules.{stored, ainAt, totAt, aoAt, stRev, alarmSum}
+use Rattle.history.specs.Calls.{Event, words}
+use Rattle.history.specs.Rules.{has, outputs, readOnlys, stored, stands, hiHi, hi, lo, loLo, alarmSum, given, reading, toImage}
+use Rattle.history.specs.Rules as Rules
+use Rattle.history.proofs.Lists.{present, Known, known}
 use Rattle.history.proofs.Sound.{fits, sound, Sound}
-use Rattle.history.proofs.Agrees.{Agrees, alarmsAt}
+use Rattle.history.proofs.Ruled.{alarmsAt, ainAt, totAt, aoAt, ainIn, totIn, aoIn, deviceOf}
 
 allowed-shown : (k : Allowed) (w : Words) → T (allowsOf k (w .first) (w .second) && fits w) → shown k w ≡ w
 allowed-shown k w t =
@@ -43,31 +49,41 @@ sound-shown (Parameter N allowed) w t q = allowed-shown allowed w q
 sound-shown (Parameter D allowed) w t q = absurd t
 sound-shown (Parameter R allowed) w t q = absurd t
 
-module _ (d : Device) (h : History Event) (A : Agrees d h) (Q : Sound h) where
-  -- the device, with its stored parameters by the rules
-  ruled : Device
-  ruled = record {
-    «write_locking» = stored h 0 18 .first;
-    ain = record { settings = ainAt h; state = d .ain .state; «st_rev» = d .ain .«st_rev» };
-    tot = record { settings = totAt h; state = d .tot .state; «st_rev» = d .tot .«st_rev» };
-    ao = record { settings = aoAt h; state = d .ao .state; «st_rev» = d .ao .«st_rev» };
-  }
+-- the other rows: outputs, and what is read only
+abbrev unstored : ℕ → Entry → Bool
+unstored number e = present number e && not (storedEntry e)
 
-  same : d ≡ ruled
-  unfolding ruled
-  same = λ i. record {
-    «write_locking» = A .lock i;
-    ain = record { settings = A .ain i; state = d .ain .state; «st_rev» = d .ain .«st_rev» };
-    tot = record { settings = A .tot i; state = d .tot .state; «st_rev» = d .tot .«st_rev» };
-    ao = record { settings = A .ao i; state = d .ao .state; «st_rev» = d .ao .«st_rev» };
-  }
+module _ (h : History Event) (Q : Sound h) where
+  bits-sum : (a b c d : Bool) → bit a + 2 * bit b + 4 * bit c + 8 * bit d ≡ cond a 1 0 + cond b 2 0 + cond c 4 0 + cond d 8 0
+  bits-sum a b c d = ap (λ (n : ℕ). n + 2 * bit b + 4 * bit c + 8 * bit d) (one a) ∙ ap (λ (n : ℕ). cond a 1 0 + n + 4 * bit c + 8 * bit d) (two b) ∙ ap (λ (n : ℕ). cond a 1 0 + cond b 2 0 + n + 8 * bit d) (four c) ∙ ap (λ (n : ℕ). cond a 1 0 + cond b 2 0 + cond c 4 0 + n) (eight d)
+    where
+      one : (b : Bool) → bit b ≡ cond b 1 0
+      one true = refl
+      one false = refl
 
-  ruled-read : (block number : ℕ) → T (storedEntry (entryOf block number)) → readOf ruled block number ≡ Read (shownBy (entryOf block number) (stored h block number))
-  unfolding ruled readOf wordsOf ainWords totWords aoWords Table.physical Table.ain Table.tot Table.ao ainAt totAt aoAt ainBy totBy aoBy
-  ruled-read =
+      two : (b : Bool) → 2 * bit b ≡ cond b 2 0
+      two true = refl
+      two false = refl
+
+      four : (b : Bool) → 4 * bit b ≡ cond b 4 0
+      four true = refl
+      four false = refl
+
+      eight : (b : Bool) → 8 * bit b ≡ cond b 8 0
+      eight true = refl
+      eight false = refl
+
+  alarms-read : Read (words (alarmByte (alarmsAt h)) 0) ≡ Read (words (alarmSum h) 0)
+  unfolding alarmByte alarmsAt alarmSum
+  alarms-read = ap (λ (n : ℕ). Read (words n 0)) (bits-sum (stands hiHi h) (stands hi h) (stands lo h) (stands loLo h))
+
+  -- stored parameters, as the settings give them
+  stored-read : (block number : ℕ) → T (storedEntry (entryOf block number)) → readBy (wordsOf (deviceOf h) block number) (entryOf block number) ≡ Read (shownBy (entryOf block number) (stored h block number))
+  unfolding deviceOf wordsOf ainWords totWords aoWords Table.physical Table.ain Table.tot Table.ao ainAt totAt aoAt
+  stored-read =
       by-rows
       (λ number e. storedEntry e)
-      (λ block number e. readBy (wordsOf ruled block number) e ≡ Read (shownBy e (stored h block number)))
+      (λ block number e. readBy (wordsOf (deviceOf h) block number) e ≡ Read (shownBy e (stored h block number)))
       (λ block number t. absurd t)
       (λ block number t. absurd t)
       (refl also tt)
@@ -75,22 +91,86 @@ module _ (d : Device) (h : History Event) (A : Agrees d h) (Q : Sound h) where
       (refl also refl also refl also refl also refl also tt)
       (refl also refl also refl also refl also refl also refl also refl also tt)
 
-  -- "A stored parameter (S or N, but not TOTAL) has its last accepted words or default."
-  pub parameters-read : (block number : ℕ) → T (storedEntry (entryOf block number)) → readOf d block number ≡ Read (stored h block number)
-  parameters-read block number t = ap (λ (x : Device). readOf x block number) same ∙ ruled-read block number t ∙ ap Read (sound-shown (entryOf block number) (stored h block number) t (Q block number))
+  -- the rules read them as stored
+  stored-shown : (block number : ℕ) → T (storedEntry (entryOf block number)) → Rules.shown h block number ≡ stored h block number
+  unfolding Rules.shown outputs readOnlys Table.physical Table.ain Table.tot Table.ao
+  stored-shown =
+      by-rows
+      (λ number e. storedEntry e)
+      (λ block number e. Rules.shown h block number ≡ stored h block number)
+      (λ block number t. absurd t)
+      (λ block number t. absurd t)
+      (refl also tt)
+      (refl also refl also refl also refl also refl also refl also refl also refl also refl also refl also refl also tt)
+      (refl also refl also refl also refl also refl also tt)
+      (refl also refl also refl also refl also refl also refl also refl also tt)
 
-  pub revisions-read : (block : ℕ) → T (ltb 0 block && ltb block 4) → readOf d block 1 ≡ Read (words (stRev h block) 0)
-  unfolding readOf entryOf entryIn Table.ain Table.tot Table.ao wordsOf ainWords totWords aoWords
-  revisions-read block t = go (eqb block 1) refl (eqb block 2) refl
+  other-read : (block number : ℕ) → T (unstored number (entryOf block number)) → readBy (wordsOf (deviceOf h) block number) (entryOf block number) ≡ Read (Rules.shown h block number)
+  unfolding deviceOf wordsOf ainWords totWords aoWords Table.physical Table.ain Table.tot Table.ao ainIn totIn aoIn Rules.shown outputs readOnlys
+  other-read =
+      by-rows
+      unstored
+      (λ block number e. readBy (wordsOf (deviceOf h) block number) e ≡ Read (Rules.shown h block number))
+      (λ block number t. absurd t)
+      (λ block number t. absurd t)
+      tt
+      (refl also refl also alarms-read also refl also tt)
+      (refl also refl also refl also tt)
+      (refl also refl also refl also tt)
+
+  -- every read of every block and number
+  pub reads-same : (block number : ℕ) → readOf (deviceOf h) block number ≡ reading h block number
+  unfolding readOf
+  reads-same block number = go (entryOf block number) (known block number) (stored-read block number) (stored-shown block number) (other-read block number) (Q block number)
     where
-      three : (n : ℕ) → 0 < n → n < 4 → (n ≡ 1 → ⊥) → (n ≡ 2 → ⊥) → 3 ≡ n
-      three n a b c e = omega arith
+      shows : (e : Entry) → (p : Bool) → (T p → readBy (wordsOf (deviceOf h) block number) e ≡ Read (Rules.shown h block number)) → (T (not p) → readBy (wordsOf (deviceOf h) block number) e ≡ Read (Rules.shown h block number)) → readBy (wordsOf (deviceOf h) block number) e ≡ Read (Rules.shown h block number)
+      shows e true a b = a tt
+      shows e false a b = b tt
 
-      go : (p : Bool) → eqb block 1 ≡ p → (q : Bool) → eqb block 2 ≡ q → readOf d block 1 ≡ Read (words (stRev h block) 0)
-      go true ep q eq = subst (λ (x : ℕ). readOf d x 1 ≡ Read (words (stRev h x) 0)) (sym (borrow.Author.Tests.eqb-true block 1 ep)) (ap (λ (n : ℕ). Read (words n 0)) (A .ainRev))
-      go false ep true eq = subst (λ (x : ℕ). readOf d x 1 ≡ Read (words (stRev h x) 0)) (sym (borrow.Author.Tests.eqb-true block 2 eq)) (ap (λ (n : ℕ). Read (words n 0)) (A .totRev))
-      go false ep false eq = subst (λ (x : ℕ). readOf d x 1 ≡ Read (words (stRev h x) 0)) (three block (ltb→lt 0 block (and-l (ltb 0 block) (ltb block 4) t)) (ltb→lt block 4 (and-r (ltb 0 block) (ltb block 4) t)) (borrow.Author.Tests.eqb-false block 1 ep) (borrow.Author.Tests.eqb-false block 2 eq)) (ap (λ (n : ℕ). Read (words n 0)) (A .aoRev))
+      listed : (ltb 3 block ≡ false) × (has block number ≡ true) → Read (Rules.shown h block number) ≡ reading h block number
+      listed k = sym (unfold reading in rw (k .0, k .1))
 
-  pub alarms-read : readOf d 1 7 ≡ Read (words (alarmSum h) 0)
-  unfolding readOf entryOf entryIn Table.ain wordsOf ainWords alarmByte alarmSum alarmsAt
-  alarms-read = ap (λ (a : Alarms). Read (words (alarmByte a) 0)) (A .alarms)
+      go : (e : Entry) → Known block number e
+          → (T (storedEntry e) → readBy (wordsOf (deviceOf h) block number) e ≡ Read (shownBy e (stored h block number)))
+          → (T (storedEntry e) → Rules.shown h block number ≡ stored h block number)
+          → (T (unstored number e) → readBy (wordsOf (deviceOf h) block number) e ≡ Read (Rules.shown h block number))
+          → T (sound e (stored h block number))
+          → readBy (wordsOf (deviceOf h) block number) e ≡ reading h block number
+      go NoBlock k a b c q = sym (unfold reading in rw k)
+      go NoParameter k a b c q = sym (unfold reading in rw (k .0, k .1))
+      go (Parameter class allowed) k a b c q =
+          shows (Parameter class allowed) (storedEntry (Parameter class allowed)) (λ t. a t ∙ ap Read (sound-shown (Parameter class allowed) (stored h block number) t q ∙ sym (b t))) c ∙ listed k
+
+-- ---- the image
+
+T-true : (b : Bool) → T b → b ≡ true
+T-true true t = refl
+T-true false t = absurd t
+
+-- room for 15 bytes, by the code's test and by the rules'
+room : (n : ℕ) → leb 15 n ≡ not (ltb n 15)
+room n = go (leb 15 n) refl (ltb n 15) refl
+  where
+    short : 15 ≤ n → n < 15 → ⊥
+    short a b = omega arith
+
+    go : (a : Bool) → leb 15 n ≡ a → (b : Bool) → ltb n 15 ≡ b → a ≡ not b
+    go true ea false eb = refl
+    go false ea true eb = refl
+    go true ea true eb = absurd (short (leb→le 15 n (subst T (sym ea) tt)) (ltb-true n 15 eb))
+    go false ea false eb = absurd (true≢false (sym (T-true (leb 15 n) (le→leb 15 n (ltb-false n 15 eb))) ∙ ea))
+
+turned : {A : Type 0} (b : Bool) (x y : A) → cond (not b) x y ≡ cond b y x
+turned true x y = refl
+turned false x y = refl
+
+pub image-answer : (buffer : List ℕ) → imageAnswer buffer ≡ toImage buffer
+unfolding imageAnswer toImage
+image-answer buffer = ap (λ (b : Bool). cond b Accepted (Rules.refused 7)) (room (length buffer)) ∙ turned (ltb (length buffer) 15) Accepted (Rules.refused 7)
+
+pub image-same : (h : History Event) (buffer : List ℕ) → imageBytes buffer (deviceOf h .ain .state .out) (deviceOf h .tot .state .out) (deviceOf h .ao .state .out) ≡ Rules.image h buffer
+unfolding imageBytes Rules.image deviceOf ainIn totIn aoIn
+image-same h buffer = ap (λ (b : Bool). cond b whole buffer) (room (length buffer)) ∙ turned (ltb (length buffer) 15) whole buffer
+  where
+    whole : List ℕ
+    whole = fiveBytes (given 1 h) ++ fiveBytes (given 2 h) ++ fiveBytes (given 3 h) ++ drop 15 buffer

@@ -18,6 +18,7 @@ use Rattle.history.specs.Calls.{Call, fitting, allFit, after, reachedFro
 use Rattle.history.specs.Encoded.{wordAt, pairAt, lengthAt, tickFound, writeFound, telegramFound, stepAt, isMalformed, callOf, more, callsFrom, decoded, Replays}
 use Rattle.history.proofs.Theorem.{demand-3}
 use Rattle.history.proofs.PointsProof.{points}
+use Rattle.history.proofs.CitedProof.{cited-points}
 
 -- what the loop computes from a place on
 pub runFrom : ℕ → List ℕ → ℕ → Device → Option Device
@@ -110,11 +111,11 @@ module _ (s : List ℕ) (bytes : (i : ℕ) → getD s i 0 < 256) where
       go false false false true = telegram-fits
       go false false false false = tt
 
-  abbrev fitO : Option (List Call) → Bool
+  abbrev pub fitO : Option (List Call) → Bool
   fitO none = true
   fitO (some cs) = allFit cs
 
-  all-fit : (left at : ℕ) → T (fitO (callsFrom left s at))
+  pub all-fit : (left at : ℕ) → T (fitO (callsFrom left s at))
   unfolding callsFrom
   all-fit zero at = go (ltb at (length s))
     where
@@ -151,10 +152,12 @@ kept-promise s bytes o e = go (callsFrom (length s) s 0) refl (all-fit s bytes (
       reaches = λ calls g. absurd (none-some (sym f ∙ g));
       claim = λ calls g. absurd (none-some (sym f ∙ g));
       points = points;
+      cited = cited-points;
     }
     go (some cs) f t = record {
       refused = λ g. absurd (none-some (sym g ∙ f));
       reaches = λ calls g. ap handed (is (some calls) g);
       claim = λ calls g. demand-3 calls (subst (λ (m : Option (List Call)). T (fitO s bytes m)) g t);
       points = points;
+      cited = cited-points;
     }

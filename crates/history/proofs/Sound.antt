@@ -16,13 +16,14 @@ use Rattle.parameters.specs.declared.Class.the-variants.{S, N, D, R}
 use Rattle.parameters.specs.declared.Entry.{Entry}
 use Rattle.parameters.specs.declared.Entry.the-variants.{NoBlock, NoParameter, Parameter}
 use Rattle.parameters.specs.declared.Standing.{Standing}
-use Rattle.parameters.specs.Table.{Row, words, physical, ain, tot, ao, entryIn, defaultIn, rowsOf, entryOf, defaultOf}
+use Rattle.parameters.specs.Table.{entryIn, entryOf}
+use Rattle.parameters.specs.Table as Table
 use Rattle.parameters.specs.Words.{allowsOf}
 use Rattle.parameters.specs.Refused.{ground}
-use Rattle.parameters.specs.Laws.{takes, accepted-takes}
-use Rattle.history.specs.Past.{History, start, _▷_, latest}
-use Rattle.history.specs.Calls.{Event, wrote}
-use Rattle.history.specs.Rules.{stored, isAccepted}
+use Rattle.parameters.specs.Laws.{by-rows, _also_, takes, accepted-takes}
+use Rattle.history.specs.Past.{History, start, _▷_, latest, told}
+use Rattle.history.specs.Calls.{Event, wrote, words}
+use Rattle.history.specs.Rules.{defaults, orZeros, orElse, wordsTo, never, stored, isAccepted}
 
 abbrev pub fits : Words → Bool
 fits w = ltb (w .first) (2 ^ 32) && ltb (w .second) (2 ^ 32)
@@ -40,52 +41,26 @@ abbrev pub Sound : History Event → Type 0
 Sound h = (block number : ℕ) → T (sound (entryOf block number) (stored h block number))
 
 -- ---- the defaults
-abbrev rowSound : Row → Bool
-rowSound r = sound (Parameter (r .class) (r .allowed)) (r .default)
 
-abbrev every : List Row → Bool
-every [] = true
-every (r ∷ rows) = rowSound r && every rows
-
-in-rows : (rows : List Row) (number : ℕ) → T (every rows) → T (sound (entryIn rows number) (defaultIn rows number))
-unfolding entryIn defaultIn
-in-rows [] number t = tt
-in-rows (r ∷ rows) number t = go (eqb number (r .number)) (in-rows rows number (and-r (rowSound r) (every rows) t))
-  where
-    go : (b : Bool) → T (sound (entryIn rows number) (defaultIn rows number)) → T (sound (cond b (Parameter (r .class) (r .allowed)) (entryIn rows number)) (cond b (r .default) (defaultIn rows number)))
-    go true h = and-l (rowSound r) (every rows) t
-    go false h = h
-
-physical-sound : T (every physical)
-unfolding physical allowsOf
-physical-sound = tt
-
-ain-sound : T (every ain)
-unfolding ain allowsOf allowedScale le ofBits ofInt ne
-ain-sound = tt
-
-tot-sound : T (every tot)
-unfolding tot allowsOf le ofBits ofInt
-tot-sound = tt
-
-ao-sound : T (every ao)
-unfolding ao allowsOf allowedScale ofBits ne
-ao-sound = tt
-
-defaults : (block number : ℕ) → T (sound (entryOf block number) (defaultOf block number))
-unfolding entryOf defaultOf rowsOf
-defaults block number = go (eqb block 0) (eqb block 1) (eqb block 2) (eqb block 3)
-  where
-    go : (a b c d : Bool) → T (sound (cond a (entryIn physical number) (cond b (entryIn ain number) (cond c (entryIn tot number) (cond d (entryIn ao number) NoBlock)))) (defaultIn (cond a physical (cond b ain (cond c tot (cond d ao [])))) number))
-    go true b c d = in-rows physical number physical-sound
-    go false true c d = in-rows ain number ain-sound
-    go false false true d = in-rows tot number tot-sound
-    go false false false true = in-rows ao number ao-sound
-    go false false false false = tt
+default-sound : (block number : ℕ) → T (sound (entryOf block number) (orZeros (defaults block) number))
+unfolding defaults entryOf entryIn Table.physical Table.ain Table.tot Table.ao allowsOf allowedScale le ofBits ofInt ne
+default-sound block number =
+    by-rows
+    (λ number e. true)
+    (λ block number e. T (sound e (orZeros (defaults block) number)))
+    (λ block number t. tt)
+    (λ block number t. tt)
+    (tt also tt)
+    (tt also tt also tt also tt also tt also tt also tt also tt also tt also tt also tt also tt also tt also tt also tt also tt)
+    (tt also tt also tt also tt also tt also tt also tt also tt also tt)
+    (tt also tt also tt also tt also tt also tt also tt also tt also tt also tt also tt)
+    block
+    number
+    tt
 
 pub sound-start : Sound start
 unfolding stored latest
-sound-start block number = defaults block number
+sound-start block number = default-sound block number
 
 -- ---- an accepted write
 accepted-sound : (e : Entry) (a b : ℕ) → T (takes e a b) → T (fits (words a b)) → T (sound e (words a b))
@@ -107,7 +82,7 @@ sound-write h s block number a b old t f block′ number′ = go (eqb block bloc
     same : block ≡ block′ → number ≡ number′ → T (sound (entryOf block′ number′) (words a b))
     same p q = subst (λ (x : ℕ). T (sound (entryOf x number′) (words a b))) p (subst (λ (x : ℕ). T (sound (entryOf block x) (words a b))) q (accepted-sound (entryOf block number) a b (accepted-takes s block number a b (accepted-is (ground s block number a b) t)) f))
 
-    go : (p : Bool) → eqb block block′ ≡ p → (q : Bool) → eqb number number′ ≡ q → T (sound (entryOf block′ number′) (Rattle.history.specs.Rules.orDefault (defaultOf block′ number′) (Rattle.history.specs.Past.told (cond (p && q) (some (words a b)) none) (latest (Rattle.history.specs.Rules.wordsTo block′ number′) Rattle.history.specs.Rules.never h))))
+    go : (p : Bool) → eqb block block′ ≡ p → (q : Bool) → eqb number number′ ≡ q → T (sound (entryOf block′ number′) (orElse (orZeros (defaults block′) number′) (told (cond (p && q) (some (words a b)) none) (latest (wordsTo block′ number′) never h))))
     go true ep true eq = same (eqb-true block block′ ep) (eqb-true number number′ eq)
     go true ep false eq = old block′ number′
     go false ep q eq = old block′ number′

@@ -1,8 +1,9 @@
--- Agreement with the rules over a telegram and a warm start. Assumes nothing.
+-- The device by the rules over a telegram and a warm start. Assumes nothing.
 use Prim.Native.Nat.{ℕ, _<_, _≤_, min}
 use native.Mathlib.Omega.{arith}
 use mathlib.Core.Path.{_≡_, refl, sym, ap, _∙_, subst}
 use mathlib.Core.Bool.{Bool, true, false, not, _&&_, _||_, cond, true≢false}
+use mathlib.Core.Logic.{_⊎_, inl, inr}
 use mathlib.Core.List.{List}
 use mathlib.Core.Option.{none, some}
 use lib.Dec.{eqb, ltb}
@@ -14,6 +15,7 @@ use Rattle.wire.specs.declared.Pair.{Pair}
 use Rattle.wire.specs.declared.Received.{Received}
 use Rattle.wire.specs.declared.Refusal.the-variants.{NoSuchInput, WrongLength}
 use Rattle.wire.specs.Bytes.{pairOf, wordOf}
+use Rattle.blocks.specs.Common as Common
 use Rattle.ao.specs.declared.Input.{Input as Setpoint}
 use Rattle.ao.specs.declared.State.{State as AoState}
 use Rattle.ao.specs.FailSafe.{usable, initiates, afterTelegram, emptied}
@@ -25,8 +27,8 @@ use Rattle.device.specs.declared.Device.{Device}
 use Rattle.device.specs.Calls.{telegramOf, warmStarted}
 use Rattle.history.specs.Past.{History, _▷_, count, countSince, since, latest, carried}
 use Rattle.history.specs.Calls.{Event, telegram, warmed}
-use Rattle.history.specs.Rules.{stored, ainAt, totAt, aoAt, stRev, filterValue, Alarm, hiHi, hi, lo, loLo, stands, raises, clears, rateValue, oldOut, total, came, setpoint, silence, ifs, isTick, isStart, pairOn, holds, isUsable, isIfs, isUsableOn, isIfsOn}
-use Rattle.history.proofs.Agrees.{inputAt, alarmsAt, Agrees, alarms-still, input-still}
+use Rattle.history.specs.Rules.{pair, stored, code, outOfService, stRev, actual, operator, filterValue, lastUsable, Alarm, hiHi, hi, lo, loLo, stands, raises, clears, rateValue, total, given, held, came, setpoint, silence, ifs, isTick, isStart, pairOn, holds, isUsable, isIfs, isUsableOn, isIfsOn}
+use Rattle.history.proofs.Ruled.{keptOf, inputAt, alarmsAt, ainAt, totAt, aoAt, ainIn, totIn, aoIn, deviceOf, alarms-still, input-still}
 use Rattle.history.proofs.Truth.{and-true, and-false}
 
 -- an input by its four parts
@@ -66,7 +68,7 @@ module _ (input : ℕ) (h : History Event) (e : Event) (p : Pair) (here : pairOn
   unfolding setpoint latest
   setpoint-is = rw (s, usable-is, here) (go u)
     where
-      go : (b : Bool) → Rattle.history.specs.Rules.orZero (Rattle.history.specs.Past.told (cond b (some (floatOf (p .bits))) none) (latest (Rattle.history.specs.Rules.setpointOn input) isStart h)) ≡ cond b (floatOf (p .bits)) (setpoint input h)
+      go : (b : Bool) → Rattle.history.specs.Rules.orElse (floatOf 0) (Rattle.history.specs.Past.told (cond b (some (floatOf (p .bits))) none) (latest (Rattle.history.specs.Rules.setpointOn input) isStart h)) ≡ cond b (floatOf (p .bits)) (setpoint input h)
       go true = refl
       go false = refl
 
@@ -95,77 +97,82 @@ five-is : (bytes : List ℕ) → eqb (length bytes) 5 ≡ true → pairOf bytes 
 unfolding pairOf five
 five-is bytes e = rw e
 
-module _ (d : Device) (h : History Event) (A : Agrees d h) (bytes : List ℕ) (l : eqb (length bytes) 5 ≡ true) where
-  here : (input : ℕ) → eqb input input ≡ true → pairOn input (telegram input bytes) ≡ some (five bytes)
-  here input e = rw (e, five-is bytes l)
-
+module _ (h : History Event) (bytes : List ℕ) (l : eqb (length bytes) 5 ≡ true) where
   -- what a telegram leaves, and what is to be shown of AO's state
   module _ (input : ℕ) where
     abbrev then : History Event
     then = h ▷ telegram input bytes
 
     abbrev state : AoState
-    state = Ao.telegramOf (d .ao .state) input bytes .state
+    state = Ao.telegramOf (aoIn h) input bytes .state
 
-    pub heard : state .out .bits ≡ d .ao .state .out .bits → state .sp ≡ inputAt 0 then → state .«rcas_in» ≡ inputAt 1 then → Agrees (telegramOf d input bytes .device) then
-    unfolding telegramOf stored latest ainAt totAt aoAt stRev count filterValue carried raises clears total rateValue oldOut
-    heard out sp rcasIn = record {
-      lock = A .lock;
-      ain = A .ain;
-      tot = A .tot;
-      ao = A .ao;
-      ainRev = A .ainRev;
-      totRev = A .totRev;
-      aoRev = A .aoRev;
-      filter = A .filter;
-      alarms = A .alarms ∙ sym (alarms-still h (telegram input bytes) (λ a. refl) (λ a. refl));
-      total = A .total;
-      rate = A .rate;
-      old = out ∙ A .old;
-      sp = sp;
-      rcasIn = rcasIn;
+    alarms-same : alarmsAt h ≡ alarmsAt then
+    alarms-same = sym (alarms-still h (telegram input bytes) (λ a. unfold raises in refl) (λ a. unfold clears in refl))
+
+    ain-same : ainIn h ≡ ainIn then
+    unfolding ainIn given actual operator latest filterValue lastUsable carried
+    ain-same = λ i. record { out = given 1 h; mode = actual 1 h; filter = keptOf (filterValue h); last = keptOf (lastUsable h); operator = operator 1 h; alarms = alarms-same i }
+
+    tot-same : totIn h ≡ totIn then
+    unfolding totIn given actual operator latest total rateValue carried
+    tot-same = refl
+
+    pub heard : state ≡ aoIn then → telegramOf (deviceOf h) input bytes .device ≡ deviceOf then
+    unfolding telegramOf deviceOf stored latest ainAt totAt aoAt stRev count
+    heard s = λ i. record {
+      «write_locking» = code h 0 18;
+      ain = record { settings = ainAt h; state = ain-same i; «st_rev» = stRev h 1 };
+      tot = record { settings = totAt h; state = tot-same i; «st_rev» = stRev h 2 };
+      ao = record { settings = aoAt h; state = s i; «st_rev» = stRev h 3 };
     }
 
+    -- AO's state with its inputs after it
+    abbrev inputs : Setpoint → Setpoint → AoState
+    inputs sp rcasIn = record { out = given 3 h; mode = actual 3 h; operator = operator 3 h; sp = sp; «rcas_in» = rcasIn }
+
+    listened : (sp rcasIn : Setpoint) → sp ≡ inputAt 0 then → rcasIn ≡ inputAt 1 then → inputs sp rcasIn ≡ aoIn then
+    unfolding aoIn given actual operator latest carried
+    listened sp rcasIn e f = λ i. inputs (e i) (f i)
+
     -- the input that it came on, and the other one
-    taken : (i : ℕ) (x : Setpoint) → eqb input i ≡ true → x ≡ inputAt i h → inputAfter x (five bytes) ≡ inputAt i then
-    taken i x e a = ap (λ (y : Setpoint). inputAfter y (five bytes)) a ∙ sym (input-heard i h (telegram input bytes) (five bytes) (rw (e, five-is bytes l)) refl refl)
+    taken : (i : ℕ) → eqb input i ≡ true → inputAfter (inputAt i h) (five bytes) ≡ inputAt i then
+    taken i e = sym (input-heard i h (telegram input bytes) (five bytes) (rw (e, five-is bytes l)) refl refl)
 
-    other : (i : ℕ) (x : Setpoint) → eqb input i ≡ false → x ≡ inputAt i h → x ≡ inputAt i then
-    other i x e a = a ∙ sym (input-still i (telegram input bytes) (rw e) h refl refl)
+    other : (i : ℕ) → eqb input i ≡ false → inputAt i h ≡ inputAt i then
+    other i e = sym (input-still i (telegram input bytes) (rw e) h refl refl)
 
-  pub agrees-telegram : (input : ℕ) → input < 2 → Agrees (telegramOf d input bytes .device) (h ▷ telegram input bytes)
+  pub ruled-telegram : (input : ℕ) → input < 2 → telegramOf (deviceOf h) input bytes .device ≡ deviceOf (h ▷ telegram input bytes)
   unfolding Ao.telegramOf takenOn
-  agrees-telegram input small = go (eqb input 0) refl
+  ruled-telegram input small = go (eqb input 0) refl
     where
       second : (n : ℕ) → n < 2 → (n ≡ 0 → ⊥) → 1 ≡ n
       second n a b = omega arith
 
-      is : (i : ℕ) → receivedOn (d .ao .state) i (pairOf bytes) .state ≡ takenOn (d .ao .state) i (five bytes)
-      is i = ap (λ (r : Received). receivedOn (d .ao .state) i r .state) (five-is bytes l)
+      is : (i : ℕ) → receivedOn (aoIn h) i (pairOf bytes) .state ≡ takenOn (aoIn h) i (five bytes)
+      is i = ap (λ (r : Received). receivedOn (aoIn h) i r .state) (five-is bytes l)
 
-      go : (b : Bool) → eqb input 0 ≡ b → Agrees (telegramOf d input bytes .device) (h ▷ telegram input bytes)
-      go true e = subst (λ (i : ℕ). Agrees (telegramOf d i bytes .device) (h ▷ telegram i bytes)) (sym (eqb-true input 0 e))
-          (heard 0 (ap (λ (x : AoState). x .out .bits) (is 0)) (ap (λ (x : AoState). x .sp) (is 0) ∙ taken 0 0 (d .ao .state .sp) refl (A .sp)) (ap (λ (x : AoState). x .«rcas_in») (is 0) ∙ other 0 1 (d .ao .state .«rcas_in») refl (A .rcasIn)))
-      go false e = subst (λ (i : ℕ). Agrees (telegramOf d i bytes .device) (h ▷ telegram i bytes)) (second input small (eqb-false input 0 e))
-          (heard 1 (ap (λ (x : AoState). x .out .bits) (is 1)) (ap (λ (x : AoState). x .sp) (is 1) ∙ other 1 0 (d .ao .state .sp) refl (A .sp)) (ap (λ (x : AoState). x .«rcas_in») (is 1) ∙ taken 1 1 (d .ao .state .«rcas_in») refl (A .rcasIn)))
+      on-sp : takenOn (aoIn h) 0 (five bytes) ≡ aoIn (h ▷ telegram 0 bytes)
+      on-sp = unfold aoIn in listened 0 (inputAfter (inputAt 0 h) (five bytes)) (inputAt 1 h) (taken 0 0 refl) (other 0 1 refl)
+
+      on-rcas : takenOn (aoIn h) 1 (five bytes) ≡ aoIn (h ▷ telegram 1 bytes)
+      on-rcas = unfold aoIn in listened 1 (inputAt 0 h) (inputAfter (inputAt 1 h) (five bytes)) (other 1 0 refl) (taken 1 1 refl)
+
+      go : (b : Bool) → eqb input 0 ≡ b → telegramOf (deviceOf h) input bytes .device ≡ deviceOf (h ▷ telegram input bytes)
+      go true e = subst (λ (i : ℕ). telegramOf (deviceOf h) i bytes .device ≡ deviceOf (h ▷ telegram i bytes)) (sym (eqb-true input 0 e)) (heard 0 (is 0 ∙ on-sp))
+      go false e = subst (λ (i : ℕ). telegramOf (deviceOf h) i bytes .device ≡ deviceOf (h ▷ telegram i bytes)) (second input small (eqb-false input 0 e)) (heard 1 (is 1 ∙ on-rcas))
 
 -- a refused telegram leaves the device
-pub telegram-refused : (d : Device) (input : ℕ) (bytes : List ℕ) → ltb input 2 && eqb (length bytes) 5 ≡ false → telegramOf d input bytes .device ≡ d
-unfolding telegramOf Ao.telegramOf pairOf five
-telegram-refused d input bytes n = ap with-state (go (ltb input 2) refl (ltb 1 input) refl (eqb (length bytes) 5) n)
+pub telegram-refused : (d : Device) (input : ℕ) (bytes : List ℕ) → (ltb 1 input ≡ true) ⊎ (eqb (length bytes) 5 ≡ false) → telegramOf d input bytes .device ≡ d
+unfolding telegramOf Ao.telegramOf pairOf
+telegram-refused d input bytes (inl e) = rw e
+telegram-refused d input bytes (inr e) = rw e (ap with-state (go (ltb 1 input)))
   where
     with-state : AoState → Device
     with-state st = record { «write_locking» = d .«write_locking»; ain = d .ain; tot = d .tot; ao = record { settings = d .ao .settings; state = st; «st_rev» = d .ao .«st_rev» } }
 
-    clash : 2 ≤ input → input ≤ 1 → ⊥
-    clash a b = omega arith
-
-    go : (a : Bool) → ltb input 2 ≡ a → (b : Bool) → ltb 1 input ≡ b → (c : Bool) → a && c ≡ false
-        → cond b (Ao.refusedWith (d .ao .state) NoSuchInput) (receivedOn (d .ao .state) input (cond c (Received.Value (five bytes)) (Received.Refused WrongLength))) .state ≡ d .ao .state
-    go a ea true eb c e = refl
-    go a ea false eb false e = refl
-    go true ea false eb true e = absurd (true≢false e)
-    go false ea false eb true e = absurd (clash (ltb-false input 2 ea) (ltb-false 1 input eb))
+    go : (p : Bool) → cond p (Ao.refusedWith (d .ao .state) NoSuchInput) (receivedOn (d .ao .state) input (Received.Refused WrongLength)) .state ≡ d .ao .state
+    go true = refl
+    go false = refl
 
 -- ---- a warm start
 
@@ -186,21 +193,26 @@ module _ (h : History Event) where
   unfolding noTelegrams emptied inputAt setpoint latest
   emptied-input input = λ i. made (sym (no-came input) i) (floatOf 0) (silence input (h ▷ warmed)) (sym (none-ifs input) i)
 
-  pub agrees-warm : (d : Device) → Agrees d h → Agrees (warmStarted d) (h ▷ warmed)
-  unfolding warmStarted aoWarmStarted started stored latest ainAt totAt aoAt stRev count filterValue carried alarmsAt total rateValue oldOut
-  agrees-warm d A = record {
-    lock = A .lock;
-    ain = A .ain;
-    tot = A .tot;
-    ao = A .ao;
-    ainRev = A .ainRev;
-    totRev = A .totRev;
-    aoRev = A .aoRev;
-    filter = refl;
-    alarms = λ i. record { «hi_hi» = sym (forgotten hiHi) i; hi = sym (forgotten hi) i; lo = sym (forgotten lo) i; «lo_lo» = sym (forgotten loLo) i };
-    total = A .total;
-    rate = refl;
-    old = A .old;
-    sp = emptied-input 0;
-    rcasIn = emptied-input 1;
+  pub ruled-warm : warmStarted (deviceOf h) ≡ deviceOf (h ▷ warmed)
+  unfolding warmStarted deviceOf aoWarmStarted started stored latest ainAt totAt aoAt ainIn totIn aoIn stRev count given actual operator filterValue lastUsable rateValue total carried alarmsAt
+  ruled-warm = λ i. record {
+    «write_locking» = code h 0 18;
+    ain = record {
+      settings = ainAt h;
+      state = record {
+        out = held (given 1 h);
+        mode = outOfService;
+        filter = Common.none;
+        last = Common.none;
+        operator = pair 0 0x4c;
+        alarms = record { «hi_hi» = sym (forgotten hiHi) i; hi = sym (forgotten hi) i; lo = sym (forgotten lo) i; «lo_lo» = sym (forgotten loLo) i };
+      };
+      «st_rev» = stRev h 1;
+    };
+    tot = record { settings = totAt h; state = record { total = total h; out = held (given 2 h); mode = outOfService; rate = Common.none; «operator_status» = 0x4c }; «st_rev» = stRev h 2 };
+    ao = record {
+      settings = aoAt h;
+      state = record { out = held (given 3 h); mode = outOfService; operator = pair 0 0x4c; sp = emptied-input 0 i; «rcas_in» = emptied-input 1 i };
+      «st_rev» = stRev h 3;
+    };
   }

@@ -1,116 +1,197 @@
--- The claim holds of every list of calls: a device that agrees with the rules agrees with them after each call, and one induction over the list. Assumes nothing.
+-- The claim holds of every list of calls: the device reached is the device by the rules, by one lemma for each call and one induction over the list. Assumes nothing.
 use Prim.Native.Nat.{ℕ, _<_, _≤_, _^_}
 use native.Mathlib.Omega.{arith}
 use mathlib.Core.Path.{_≡_, refl, sym, ap, _∙_, subst}
-use mathlib.Core.Bool.{Bool, true, false, _&&_, cond}
+use mathlib.Core.Bool.{Bool, true, false, not, _&&_, _||_, cond}
+use mathlib.Core.Logic.{inl, inr}
 use mathlib.Core.List.{List, [], _∷_}
-use lib.Dec.{T, eqb, ltb}
+use lib.Dec.{T, eqb, leb, leb→le, ltb}
+use lib.IntN.{pos, negsuc}
+use lib.Ieee.{binary32, ofInt}
 use lib.Ieee.Fits.{and-l, and-r}
+use lib.Ieee.Scale.{finite}
 use lib.ListN.{length, getD}
 use borrow.Author.Tests.{eqb-true, ltb-true, ltb-false}
+use Rattle.numbers.specs.Floats.{floatOf, within}
 use Rattle.wire.specs.declared.Pair.{Pair}
 use Rattle.wire.specs.Bytes.{pairOf, wordOf}
+use Rattle.wire.specs.Image.{imageBytes}
 use Rattle.wire.specs.declared.Received.{Received}
 use Rattle.wire.specs.declared.Refusal.the-variants.{NoSuchInput, WrongLength}
 use Rattle.wire.specs.declared.Answer.{Answer}
 use Rattle.wire.specs.declared.Answer.the-variants.{Accepted, Refused}
-use Rattle.ain.specs.declared.Settings.{Settings as AinSettings}
-use Rattle.tot.specs.declared.Settings.{Settings as TotSettings}
-use Rattle.ao.specs.declared.Settings.{Settings as AoSettings}
 use Rattle.ao.specs.Telegram as Ao
+use Rattle.ao.specs.declared.Order.{Order}
+use Rattle.parameters.specs.declared.Words.{Words}
 use Rattle.parameters.specs.declared.Standing.{Standing}
-use Rattle.parameters.specs.declared.Entry.the-variants.{NoParameter, Parameter}
+use Rattle.parameters.specs.declared.Entry.{Entry}
+use Rattle.parameters.specs.declared.Entry.the-variants.{NoBlock, NoParameter, Parameter}
 use Rattle.parameters.specs.declared.Class.the-variants.{N}
 use Rattle.parameters.specs.declared.Allowed.the-variants.{Lock}
 use Rattle.parameters.specs.Table.{entryIn, entryOf}
 use Rattle.parameters.specs.Table as Table
+use Rattle.parameters.specs.Words.{allowsOf}
 use Rattle.parameters.specs.Refused.{ground, groundBy}
+use Rattle.parameters.specs.Laws.{by-rows, _also_, takes, accepted-takes}
 use Rattle.device.specs.declared.Device.{Device}
-use Rattle.device.specs.Factory.{ainBy, totBy, aoBy, factoryDevice}
+use Rattle.device.specs.Factory.{factoryDevice}
 use Rattle.device.specs.Read.{readOf, wordsOf, ainWords, aoWords}
-use Rattle.device.specs.Calls.{standingOf, writeBy, writeOf, telegramOf}
-use Rattle.history.specs.Past.{History, start, _▷_, latest, Each}
-use Rattle.history.specs.Calls.{Call, tick, write, warmStart, Event, wrote, fitting, allFit, after, event, reachedFrom, traceFrom, reached, trace}
-use Rattle.history.specs.Rules.{stored, standing, isAccepted, isMet, accepted, ainAt, totAt, aoAt}
-use Rattle.history.specs.Claim.{Tick, accepts, Claim}
+use Rattle.device.specs.Calls.{standingOf, writeBy, writeOf, tickOf, telegramOf, warmStarted}
+use Rattle.history.specs.Past.{History, start, _▷_, latest, carried, Each}
+use Rattle.history.specs.Calls.{Call, tick, write, warmStart, Event, wrote, seen, fitting, allFit, after, event, reachedFrom, traceFrom, reached, trace}
+use Rattle.history.specs.Rules.{outputs, among, stored, toWrite, toTelegram, isAccepted, answer, accepted, given, oldOut}
+use Rattle.history.specs.Rules as Rules
+use Rattle.history.specs.Claim.{Tick, answers, Claim}
+use Rattle.history.proofs.Lists.{present, standingAt, ground-same}
 use Rattle.history.proofs.Sound.{Sound, sound-start, sound-write}
-use Rattle.history.proofs.Agrees.{Agrees, agrees-start, agrees-wrote}
-use Rattle.history.proofs.Telegrams.{agrees-telegram, telegram-refused, agrees-warm}
-use Rattle.history.proofs.TickStep.{agrees-tick, claim-tick}
-use Rattle.history.proofs.ReadBack.{parameters-read, revisions-read, alarms-read}
+use Rattle.history.proofs.Ruled.{ainAt, totAt, aoAt, totIn, deviceOf, ruled-start, ruled-wrote}
+use Rattle.history.proofs.Telegrams.{ruled-telegram, telegram-refused, ruled-warm}
+use Rattle.history.proofs.TickStep.{ain-given, ao-given, order-is, good-is, ruled-tick}
+use Rattle.history.proofs.ReadBack.{reads-same, image-answer, image-same}
 
 -- what holds of a device and the accepted events
 pub record Holds (d : Device) (h : History Event) : Type 0 where
-  pub agrees : Agrees d h
+  pub ruled : d ≡ deviceOf h
+  -- the value last given is what reads of OUT gave after the tick before
+  pub ainOld : given 1 h .bits ≡ oldOut 1 h
+  pub aoOld : given 3 h .bits ≡ oldOut 3 h
   pub sound : Sound h
   pub ticks : Each Tick h
 
 -- ---- a write
 
--- what stands, by the device and by the rules
-standing-same : (d : Device) (h : History Event) → Agrees d h → standingOf d ≡ standing h
-unfolding standing ainAt ainBy totAt totBy aoAt aoBy
-standing-same d h A = λ i. record {
-  lock = A .lock i;
-  ain = ap (λ (s : AinSettings). s .target) (A .ain) i;
-  tot = ap (λ (s : TotSettings). s .target) (A .tot) i;
-  ao = ap (λ (s : AoSettings). s .target) (A .ao) i;
-}
-
 -- block 0 has one parameter
-only-lock : (s : Standing) (block number a b : ℕ) → T (isAccepted (ground s block number a b)) → eqb block 0 ≡ true → eqb number 18 ≡ true
+only-lock : (s : Standing) (block number a b : ℕ) → ground s block number a b ≡ Accepted → eqb block 0 ≡ true → eqb number 18 ≡ true
 unfolding ground entryOf entryIn Table.physical
-only-lock s block number a b t e = go (eqb number 18) (subst (λ (x : ℕ). T (isAccepted (ground s x number a b))) (eqb-true block 0 e) t)
+only-lock s block number a b t e = go (eqb number 18) (subst (λ (x : Answer). T (isAccepted x)) (sym (sym (ap (λ (x : ℕ). ground s x number a b) (eqb-true block 0 e)) ∙ t)) tt)
   where
     go : (p : Bool) → T (isAccepted (groundBy s 0 a b (cond p (Parameter N Lock) NoParameter))) → p ≡ true
     go true t = refl
     go false t = absurd t
 
-write-step : (d : Device) (h : History Event) (block number a b : ℕ) → T (ltb a (2 ^ 32) && ltb b (2 ^ 32)) → Holds d h
-    → Holds (writeOf d block number a b .device) (cond (isAccepted (ground (standing h) block number a b)) (h ▷ wrote block number a b) h)
+-- an accepted status of OUT or TOTAL is a byte
+module _ (a b : ℕ) where
+  abbrev Small : ℕ → ℕ → Entry → Type 0
+  Small block number e = T (takes e a b) → T (among (outputs block) number) → b ≤ 255
+
+  -- OUT and TOTAL: a value in its range, and a byte; the other rows are not among the outputs
+  byte : (range : Bool) → T (range && leb b 255) → b ≤ 255
+  byte range t = leb→le b 255 (and-r range (leb b 255) t)
+
+  no : {A : Type 0} → A → ⊥ → b ≤ 255
+  no t m = absurd m
+
+  status-small : (block number : ℕ) → T (present number (entryOf block number)) → Small block number (entryOf block number)
+  unfolding outputs allowsOf Table.physical Table.ain Table.tot Table.ao
+  status-small =
+      by-rows
+      present
+      Small
+      (λ block number t. absurd t)
+      (λ block number t. absurd t)
+      (no also tt)
+      (no also no also no also no also (λ t m. byte (finite (floatOf a)) t) also no also no also no also no also no also no also no also no also no also no also tt)
+      (no also no also no also (λ t m. byte (within (ofInt binary32 (negsuc 999_999_999)) (ofInt binary32 (pos 1_000_000_000)) (floatOf a)) t) also no also no also no also no also tt)
+      (no also no also no also no also no also no also no also no also (λ t m. byte (finite (floatOf a)) t) also no also tt)
+
+-- one that is taken has a row
+taken-present : (e : Entry) (number a b : ℕ) → T (takes e a b) → T (present number e)
+taken-present NoBlock number a b t = t
+taken-present NoParameter number a b t = t
+taken-present (Parameter class allowed) number a b t = tt
+
+-- what stands, by the device and by the rules
+standing-same : (h : History Event) → standingOf (deviceOf h) ≡ standingAt h
+unfolding standingAt deviceOf ainAt totAt aoAt
+standing-same h = refl
+
+write-same : (h : History Event) (block number a b : ℕ) → ground (standingOf (deviceOf h)) block number a b ≡ toWrite h block number a b
+write-same h block number a b = ap (λ (s : Standing). ground s block number a b) (standing-same h) ∙ ground-same h a b block number
+
+write-ruled : (h : History Event) (block number a b : ℕ) → T (ltb a (2 ^ 32) && ltb b (2 ^ 32)) → Holds (deviceOf h) h
+    → Holds (writeOf (deviceOf h) block number a b .device) (cond (isAccepted (toWrite h block number a b)) (h ▷ wrote block number a b) h)
 unfolding writeOf
-write-step d h block number a b fit H = go (ground (standing h) block number a b) refl (ap (λ (s : Standing). ground s block number a b) (standing-same d h (H .agrees)))
+write-ruled h block number a b fit H = go (toWrite h block number a b) refl (write-same h block number a b)
   where
-    go : (x : Answer) → ground (standing h) block number a b ≡ x → ground (standingOf d) block number a b ≡ ground (standing h) block number a b
-        → Holds (writeBy d block number a b (ground (standingOf d) block number a b) .device) (cond (isAccepted (ground (standing h) block number a b)) (h ▷ wrote block number a b) h)
+    go : (x : Answer) → toWrite h block number a b ≡ x → ground (standingOf (deviceOf h)) block number a b ≡ toWrite h block number a b
+        → Holds (writeBy (deviceOf h) block number a b (ground (standingOf (deviceOf h)) block number a b) .device) (cond (isAccepted (toWrite h block number a b)) (h ▷ wrote block number a b) h)
     go Accepted e f =
-        let met : T (isAccepted (ground (standing h) block number a b)) = subst (λ (x : Answer). T (isAccepted x)) (sym e) tt in
+        let met = f ∙ e in
+        let taken = accepted-takes (standingOf (deviceOf h)) block number a b met in
         rw (f, e) (record {
-          agrees = agrees-wrote h block number a b d (H .agrees) (only-lock (standing h) block number a b met);
-          sound = sound-write h (standing h) block number a b (H .sound) met fit;
+          ruled = ruled-wrote h block number a b (only-lock (standingOf (deviceOf h)) block number a b met)
+              (λ B e m. status-small a b block number (taken-present (entryOf block number) number a b taken) taken (subst (λ (x : ℕ). T (among (outputs x) number)) (sym (eqb-true block B e)) m));
+          ainOld = unfold given oldOut carried in H .ainOld;
+          aoOld = unfold given oldOut carried in H .aoOld;
+          sound = sound-write h (standingOf (deviceOf h)) block number a b (H .sound) (subst (λ (x : Answer). T (isAccepted x)) (sym met) tt) fit;
           ticks = (H .ticks, tt);
         })
     go (Refused r) e f = rw (f, e) H
 
 -- ---- the other calls
 
-telegram-step : (d : Device) (h : History Event) (input : ℕ) (bytes : List ℕ) → Holds d h
-    → Holds (telegramOf d input bytes .device) (cond (ltb input 2 && eqb (length bytes) 5) (h ▷ Event.telegram input bytes) h)
-telegram-step d h input bytes H = go (ltb input 2) refl (eqb (length bytes) 5) refl
+telegram-ruled : (h : History Event) (input : ℕ) (bytes : List ℕ) → Holds (deviceOf h) h
+    → Holds (telegramOf (deviceOf h) input bytes .device) (cond (isAccepted (toTelegram input bytes)) (h ▷ Event.telegram input bytes) h)
+unfolding toTelegram
+telegram-ruled h input bytes H = go (ltb 1 input) refl (eqb (length bytes) 5) refl
   where
-    refused : (p : Bool) → ltb input 2 && eqb (length bytes) 5 ≡ p → p ≡ false → Holds (telegramOf d input bytes .device) (cond p (h ▷ Event.telegram input bytes) h)
-    refused p e n = rw (n, telegram-refused d input bytes (e ∙ n)) H
+    small : (n : ℕ) → n ≤ 1 → n < 2
+    small n s = omega arith
 
-    go : (p : Bool) → ltb input 2 ≡ p → (q : Bool) → eqb (length bytes) 5 ≡ q → Holds (telegramOf d input bytes .device) (cond (ltb input 2 && eqb (length bytes) 5) (h ▷ Event.telegram input bytes) h)
-    go true ep true eq = rw (ep, eq) (record { agrees = agrees-telegram d h (H .agrees) bytes eq input (borrow.Author.Tests.ltb-true input 2 ep); sound = unfold stored latest in H .sound; ticks = (H .ticks, tt) })
-    go true ep false eq = refused (ltb input 2 && eqb (length bytes) 5) refl (rw (ep, eq))
-    go false ep q eq = refused (ltb input 2 && eqb (length bytes) 5) refl (rw ep)
+    go : (p : Bool) → ltb 1 input ≡ p → (q : Bool) → eqb (length bytes) 5 ≡ q → Holds (telegramOf (deviceOf h) input bytes .device) (cond (isAccepted (cond (ltb 1 input) (Rules.refused 8) (cond (not (eqb (length bytes) 5)) (Rules.refused 7) Accepted))) (h ▷ Event.telegram input bytes) h)
+    go true ep q eq = rw (ep, telegram-refused (deviceOf h) input bytes (inl ep)) H
+    go false ep false eq = rw (ep, eq, telegram-refused (deviceOf h) input bytes (inr eq)) H
+    go false ep true eq = rw (ep, eq) (record {
+      ruled = ruled-telegram h bytes eq input (small input (ltb-false 1 input ep));
+      ainOld = unfold given oldOut carried in H .ainOld;
+      aoOld = unfold given oldOut carried in H .aoOld;
+      sound = unfold stored latest in H .sound;
+      ticks = (H .ticks, tt);
+    })
 
-tick-step : (d : Device) (h : History Event) (fault : Bool) (ain tot : Pair) → Holds d h → Holds (after d (tick fault ain tot)) (h ▷ event d (tick fault ain tot))
-unfolding after event readOf entryOf entryIn Table.ain Table.ao wordsOf ainWords aoWords stored latest
-tick-step d h fault ain tot H = record {
-  agrees = agrees-tick d h (H .agrees) (H .sound) fault ain tot _ _ refl refl;
+tick-ruled : (h : History Event) (fault : Bool) (ain tot : Pair) → Holds (deviceOf h) h → Holds (after (deviceOf h) (tick fault ain tot)) (h ▷ event (deviceOf h) (tick fault ain tot))
+unfolding after event readOf entryOf entryIn Table.ain Table.ao wordsOf ainWords aoWords stored latest oldOut carried
+tick-ruled h fault ain tot H = record {
+  ruled = ruled-tick h (H .sound) fault ain tot (H .ainOld) (H .aoOld) ainOut aoOut order (λ i. ain-given h (H .sound) fault ain tot (H .ainOld) (H .aoOld) ainOut aoOut order i .bits);
+  ainOld = λ i. sym (ain-given h (H .sound) fault ain tot (H .ainOld) (H .aoOld) ainOut aoOut order) i .bits;
+  aoOld = λ i. sym (ao-given h (H .sound) fault ain tot (H .ainOld) (H .aoOld) ainOut aoOut order) i .bits;
   sound = H .sound;
-  ticks = (H .ticks, claim-tick d h (H .agrees) (H .sound) fault ain tot _ _ refl refl);
+  ticks = (H .ticks, record { drive = order-is h (H .sound) fault ain tot (H .ainOld) (H .aoOld) ainOut aoOut order; quality = good-is h (H .sound) fault ain tot (H .ainOld) (H .aoOld) ainOut aoOut order });
+}
+  where
+    next : Device
+    next = tickOf (deviceOf h) fault ain tot .device
+
+    ainOut : Words
+    ainOut = seen (readOf next 1 10)
+
+    aoOut : Words
+    aoOut = seen (readOf next 3 37)
+
+    order : Order
+    order = tickOf (deviceOf h) fault ain tot .order
+
+warm-ruled : (h : History Event) → Holds (deviceOf h) h → Holds (warmStarted (deviceOf h)) (h ▷ Event.warmed)
+warm-ruled h H = record {
+  ruled = ruled-warm h;
+  ainOld = unfold given oldOut carried in H .ainOld;
+  aoOld = unfold given oldOut carried in H .aoOld;
+  sound = unfold stored latest in H .sound;
+  ticks = (H .ticks, tt);
 }
 
--- each call
-step : (d : Device) (t : History Event) (c : Call) → T (fitting c) → Holds d (accepted t) → Holds (after d c) (accepted (t ▷ event d c))
+-- each call, from the device by the rules
+call-ruled : (t : History Event) (c : Call) → T (fitting c) → Holds (deviceOf (accepted t)) (accepted t) → Holds (after (deviceOf (accepted t)) c) (accepted (t ▷ event (deviceOf (accepted t)) c))
 unfolding after event accepted
-step d t (tick fault ain tot) fit H = tick-step d (accepted t) fault ain tot H
-step d t (Call.telegram input bytes) fit H = telegram-step d (accepted t) input bytes H
-step d t (write block number a b) fit H = write-step d (accepted t) block number a b fit H
-step d t warmStart fit H = record { agrees = agrees-warm (accepted t) d (H .agrees); sound = unfold stored latest in H .sound; ticks = (H .ticks, tt) }
+call-ruled t (tick fault ain tot) fit H = tick-ruled (accepted t) fault ain tot H
+call-ruled t (Call.telegram input bytes) fit H = telegram-ruled (accepted t) input bytes H
+call-ruled t (write block number a b) fit H = write-ruled (accepted t) block number a b fit H
+call-ruled t warmStart fit H = warm-ruled (accepted t) H
+
+step : (d : Device) (t : History Event) (c : Call) → T (fitting c) → Holds d (accepted t) → Holds (after d c) (accepted (t ▷ event d c))
+step d t c fit H =
+    subst (λ (x : Device). Holds (after x c) (accepted (t ▷ event x c))) (sym (H .ruled))
+    (call-ruled t c fit (subst (λ (x : Device). Holds x (accepted t)) (H .ruled) H))
 
 -- a list of calls
 run : (cs : List Call) (d : Device) (t : History Event) → T (allFit cs) → Holds d (accepted t) → Holds (reachedFrom d cs) (accepted (traceFrom d t cs))
@@ -120,43 +201,35 @@ run (c ∷ cs) d t fit H = run cs (after d c) (t ▷ event d c) (and-r (fitting 
 
 start-holds : Holds factoryDevice (accepted start)
 unfolding accepted
-start-holds = record { agrees = agrees-start; sound = sound-start; ticks = tt }
+start-holds = record { ruled = ruled-start; ainOld = unfold given oldOut carried in refl; aoOld = unfold given oldOut carried in refl; sound = sound-start; ticks = tt }
 
 reached-holds : (cs : List Call) → T (allFit cs) → Holds (reached cs) (accepted (trace cs))
 unfolding reached trace
 reached-holds cs fit = run cs factoryDevice start fit start-holds
 
--- ---- acceptance
+-- ---- answers
 
-write-answer : (d : Device) (block number a b : ℕ) (x : Answer) → isAccepted (writeBy d block number a b x .answer) ≡ isAccepted x
+write-answer : (d : Device) (block number a b : ℕ) (x : Answer) → writeBy d block number a b x .answer ≡ x
 write-answer d block number a b Accepted = refl
 write-answer d block number a b (Refused r) = refl
 
-telegram-answer : (d : Device) (input : ℕ) (bytes : List ℕ) → isAccepted (telegramOf d input bytes .answer) ≡ ltb input 2 && eqb (length bytes) 5
-unfolding telegramOf Ao.telegramOf pairOf
-telegram-answer d input bytes = go (ltb 1 input) refl (ltb input 2) refl (eqb (length bytes) 5)
+telegram-answer : (d : Device) (input : ℕ) (bytes : List ℕ) → telegramOf d input bytes .answer ≡ toTelegram input bytes
+unfolding telegramOf Ao.telegramOf pairOf toTelegram
+telegram-answer d input bytes = go (ltb 1 input) (eqb (length bytes) 5)
   where
-    big : 1 < input → input < 2 → ⊥
-    big a b = omega arith
+    go : (p q : Bool)
+        → cond p (Ao.refusedWith (d .ao .state) NoSuchInput) (Ao.receivedOn (d .ao .state) input (cond q (Received.Value (record { bits = wordOf (getD bytes 0 0) (getD bytes 1 0) (getD bytes 2 0) (getD bytes 3 0); status = getD bytes 4 0 })) (Received.Refused WrongLength))) .answer
+        ≡ cond p (Refused NoSuchInput) (cond (not q) (Refused WrongLength) Accepted)
+    go true q = refl
+    go false true = refl
+    go false false = refl
 
-    small : input ≤ 1 → 2 ≤ input → ⊥
-    small a b = omega arith
-
-    go : (p : Bool) → ltb 1 input ≡ p → (q : Bool) → ltb input 2 ≡ q → (r : Bool)
-        → isAccepted (cond p (Ao.refusedWith (d .ao .state) NoSuchInput) (Ao.receivedOn (d .ao .state) input (cond r (Received.Value (record { bits = wordOf (getD bytes 0 0) (getD bytes 1 0) (getD bytes 2 0) (getD bytes 3 0); status = getD bytes 4 0 })) (Received.Refused WrongLength))) .answer) ≡ q && r
-    go true ep true eq r = absurd (big (ltb-true 1 input ep) (ltb-true input 2 eq))
-    go true ep false eq r = refl
-    go false ep true eq true = refl
-    go false ep true eq false = refl
-    go false ep false eq r = absurd (small (ltb-false 1 input ep) (ltb-false input 2 eq))
-
-accepts-same : (d : Device) (h : History Event) → Agrees d h → (c : Call) → accepts d c ≡ isMet h (event d c)
+next-same : (h : History Event) (c : Call) → answers (deviceOf h) c ≡ answer h (event (deviceOf h) c)
 unfolding event writeOf
-accepts-same d h A (tick fault ain tot) = refl
-accepts-same d h A (Call.telegram input bytes) = telegram-answer d input bytes
-accepts-same d h A (write block number a b) =
-    write-answer d block number a b (ground (standingOf d) block number a b) ∙ ap (λ (s : Standing). isAccepted (ground s block number a b)) (standing-same d h A)
-accepts-same d h A warmStart = refl
+next-same h (tick fault ain tot) = refl
+next-same h (Call.telegram input bytes) = telegram-answer (deviceOf h) input bytes
+next-same h (write block number a b) = write-answer (deviceOf h) block number a b (ground (standingOf (deviceOf h)) block number a b) ∙ write-same h block number a b
+next-same h warmStart = refl
 
 -- Demand 3: of every list of calls whose words are of 32 bits.
 pub demand-3 : (calls : List Call) → T (allFit calls) → Claim calls
@@ -164,10 +237,9 @@ demand-3 calls fit =
     let H = reached-holds calls fit in
     let h = accepted (trace calls) in
     record {
-      parameters = parameters-read (reached calls) h (H .agrees) (H .sound);
-      revisions = revisions-read (reached calls) h (H .agrees) (H .sound);
-      alarms = alarms-read (reached calls) h (H .agrees) (H .sound);
-      total = H .agrees .total;
+      reads = λ block number. ap (λ (d : Device). readOf d block number) (H .ruled) ∙ reads-same h (H .sound) block number;
+      total = ap (λ (d : Device). d .tot .state .total) (H .ruled) ∙ (unfold deviceOf totIn in refl);
       ticks = H .ticks;
-      acceptance = accepts-same (reached calls) h (H .agrees);
+      next = λ c. ap (λ (d : Device). answers d c) (H .ruled) ∙ next-same h c ∙ ap (λ (d : Device). answer h (event d c)) (sym (H .ruled));
+      image = λ buffer. (image-answer buffer, ap (λ (d : Device). imageBytes buffer (d .ain .state .out) (d .tot .state .out) (d .ao .state .out)) (H .ruled) ∙ image-same h buffer);
     }

@@ -1,46 +1,46 @@
--- Agreement with the rules over a tick, and what is claimed of the tick. Assumes nothing.
+-- The device by the rules over a tick, and the tick's drive order. Assumes nothing.
 use Prim.Native.Nat.{ℕ, _+_, _≤_, min}
 use native.Mathlib.Omega.{arith}
 use mathlib.Core.Path.{_≡_, refl, sym, ap, _∙_}
 use mathlib.Core.Bool.{Bool, true, false, not, _&&_, _||_, cond}
+use mathlib.Core.Logic.{inl, inr}
+use mathlib.Core.Option.{Option, none, some}
 use lib.Dec.{T, eqb, eqb→eq, leb, leb→le}
+use lib.IntN.{pos}
+use lib.Ieee.{Float, binary32, ofInt, ofBits, sub}
 use lib.Ieee.Fits.{and-l}
 use lib.Ieee.Scale.{finite}
-use Rattle.numbers.specs.Floats.{floatOf}
+use Rattle.numbers.specs.Floats.{floatOf, bitsOf}
+use Rattle.scaling.specs.Scaling.{fractionOf, atFraction}
 use Rattle.wire.specs.declared.Pair.{Pair}
-use Rattle.blocks.specs.declared.Kept.{Kept}
-use Rattle.blocks.specs.Common.{outOfService, auto, rcas, actualMode, none, kept, good}
-use Rattle.ain.specs.declared.Settings.{Settings as AinSettings}
+use Rattle.blocks.specs.Common.{actualMode}
 use Rattle.ain.specs.declared.State.{State as AinState}
 use Rattle.ain.specs.declared.Alarms.{Alarms}
 use Rattle.ain.specs.Alarm.{rises, falls, alarmStands, alarmsOf, noAlarms}
 use Rattle.ain.specs.Tick as Ain
 use Rattle.ain.specs.Laws.{good-exactly}
-use Rattle.tot.specs.declared.Settings.{Settings as TotSettings}
 use Rattle.tot.specs.declared.State.{State as TotState}
 use Rattle.tot.specs.Tick as Tot
-use Rattle.ao.specs.declared.Settings.{Settings as AoSettings}
 use Rattle.ao.specs.declared.State.{State as AoState}
-use Rattle.ao.specs.declared.Input.{Input as Setpoint}
-use Rattle.ao.specs.FailSafe.{GivenOf, byMode, caseOf, following, failSafeActs, failSafeCase, silenceAfter, afterTick}
-use Rattle.ao.specs.State.{inputOf}
+use Rattle.ao.specs.declared.Order.{Order}
+use Rattle.ao.specs.FailSafe.{GivenOf, scaledOr, leadsTo, byMode, caseOf, Case, following, fallback, held, nothingHeld, safety, failSafeActs, failSafeCase, silenceAfter, afterTick}
 use Rattle.ao.specs.Tick as Ao
 use Rattle.ao.specs.Laws.{stopped-decides}
 use Rattle.parameters.specs.declared.Words.{Words}
 use Rattle.parameters.specs.declared.Allowed.the-variants.{Mode}
-use Rattle.parameters.specs.Table.{words, entryIn, entryOf}
+use Rattle.parameters.specs.Table.{entryIn, entryOf}
 use Rattle.parameters.specs.Table as Table
 use Rattle.parameters.specs.Words.{allowsOf}
 use Rattle.device.specs.declared.Device.{Device}
-use Rattle.device.specs.Factory.{ainBy, totBy, aoBy}
 use Rattle.device.specs.Calls.{tickOf}
 use Rattle.history.specs.Past.{History, _▷_, count, countSince, since, latest, carried}
 use Rattle.history.specs.Calls.{Event, ticked}
-use Rattle.history.specs.Rules.{stored, ainAt, totAt, aoAt, stRev, modeAt, filterValue, Alarm, hiHi, hi, lo, loLo, stands, raises, clears, rateValue, totalBy, total, oldOut, came, setpoint, silence, ifs, isFailSafe, gives, inputIn, isUsableOn}
-use Rattle.history.specs.Claim.{TickClaim, follows}
-use Rattle.history.proofs.Agrees.{inputAt, alarmsAt, Agrees, came-same, ifs-same, setpoint-same}
+use Rattle.history.specs.Rules.{pair, isAuto, calculated, stored, code, float, scale, outOfService, man, auto, rcas, stRev, modeAt, actual, operator, oldOut, filterValue, lastUsable, Alarm, hiHi, hi, lo, loLo, stands, raises, clears, ainGives, rateValue, total, totGives, came, setpoint, silence, ifs, isFailSafe, isUsableOn, Given, positioned, aoScaled, working, aoFailSafe, aoBy, aoGives, order, given}
+use Rattle.history.specs.Rules as Rules
+use Rattle.history.specs.Claim.{good}
+use Rattle.history.proofs.Ruled.{keptOf, inputAt, alarmsAt, ainAt, totAt, aoAt, ainIn, totIn, aoIn, deviceOf, came-same, ifs-same, setpoint-same}
 use Rattle.history.proofs.Sound.{Sound}
-use Rattle.history.proofs.Ticks.{IsMode, target, mode, ain-filter, ain-alarms, tot-rate, tot-total}
+use Rattle.history.proofs.Ticks.{calculated-is, IsMode, IsAoMode, target, ao-target, mode, ao-mode, ain-is, tot-is}
 
 -- ---- what stands at the tick
 
@@ -53,6 +53,10 @@ module _ (h : History Event) (S : Sound h) where
   unfolding modeAt actualMode entryOf entryIn Table.tot
   tot-mode fault = mode fault (stored h 2 5 .first) (target (stored h 2 5 .first) (stored h 2 5 .second) (and-l (allowsOf (Mode false) (stored h 2 5 .first) (stored h 2 5 .second)) _ (S 2 5)))
 
+  ao-mode-at : (fault : Bool) → IsAoMode (modeAt h fault 3)
+  unfolding modeAt actualMode entryOf entryIn Table.ao
+  ao-mode-at fault = ao-mode fault (stored h 3 5 .first) (ao-target true (stored h 3 5 .first) (stored h 3 5 .second) (and-l (allowsOf (Mode true) (stored h 3 5 .first) (stored h 3 5 .second)) _ (S 3 5)))
+
   set-small : stored h 2 13 .first ≤ 2
   unfolding entryOf entryIn Table.tot allowsOf
   set-small = leb→le (stored h 2 13 .first) 2 (and-l (leb (stored h 2 13 .first) 2) _ (and-l (leb (stored h 2 13 .first) 2 && eqb (stored h 2 13 .second) 0) _ (S 2 13)))
@@ -64,7 +68,7 @@ module _ (h : History Event) (S : Sound h) where
 -- ---- alarms
 
 -- one alarm by the rules, over a tick with its OUT
-module _ (a : Alarm) (h : History Event) (fault : Bool) (ain tot : Pair) (ainOut aoOut : Words) (order : Rattle.ao.specs.declared.Order.Order) where
+module _ (a : Alarm) (h : History Event) (fault : Bool) (ain tot : Pair) (ainOut aoOut : Words) (order : Order) where
   abbrev then : History Event
   then = h ▷ ticked fault ain tot ainOut aoOut order
 
@@ -83,9 +87,9 @@ module _ (a : Alarm) (h : History Event) (fault : Bool) (ain tot : Pair) (ainOut
       go true false = refl
       go false stood = refl
 
-pub alarms-then : (h : History Event) (fault : Bool) (ain tot : Pair) (ainOut aoOut : Words) (order : Rattle.ao.specs.declared.Order.Order)
+pub alarms-then : (h : History Event) (fault : Bool) (ain tot : Pair) (ainOut aoOut : Words) (order : Order)
     → cond (eqb (modeAt h fault 1) outOfService) noAlarms (alarmsOf (ainAt h) (alarmsAt h) (floatOf (ainOut .first))) ≡ alarmsAt (h ▷ ticked fault ain tot ainOut aoOut order)
-unfolding alarmsOf alarmsAt ainAt ainBy
+unfolding alarmsOf alarmsAt ainAt
 alarms-then h fault ain tot ainOut aoOut order = go (eqb (modeAt h fault 1) outOfService) refl
   where
     at : (a : Alarm) (b : Bool) → eqb (modeAt h fault 1) outOfService ≡ b → cond b false (alarmStands (a .low) (stands a h) (floatOf (stored h 1 (a .limit) .first)) (floatOf (stored h 1 19 .first)) (floatOf (ainOut .first))) ≡ stands a (h ▷ ticked fault ain tot ainOut aoOut order)
@@ -97,7 +101,7 @@ alarms-then h fault ain tot ainOut aoOut order = go (eqb (modeAt h fault 1) outO
 
 -- ---- AO's inputs
 
-module _ (input : ℕ) (h : History Event) (fault : Bool) (ain tot : Pair) (ainOut aoOut : Words) (order : Rattle.ao.specs.declared.Order.Order) where
+module _ (input : ℕ) (h : History Event) (fault : Bool) (ain tot : Pair) (ainOut aoOut : Words) (order : Order) where
   abbrev e : Event
   e = ticked fault ain tot ainOut aoOut order
 
@@ -124,140 +128,147 @@ module _ (input : ℕ) (h : History Event) (fault : Bool) (ain tot : Pair) (ainO
 
 -- ---- what AO gives
 
+-- as the rules have it
+abbrev shown : GivenOf ℕ → Given
+shown g = record { out = pair (g .value) (g .status); order = Ao.driveOrder (g .order) }
+
 -- the decision by the count that stops is that by n
 acts-same : (came : Bool) (n : ℕ) (ifs : Bool) (time : ℕ) → time ≤ 65535 → failSafeActs came (cond came (min n 65536) 0) ifs time ≡ failSafeActs came n ifs time
 acts-same true n ifs time h = stopped-decides true n ifs time h
 acts-same false n ifs time h = unfold failSafeActs in refl
 
-given-same : (input : ℕ) (h : History Event) → stored h 3 23 .first ≤ 65535 → Ao.givenByInput (aoAt h) (oldOut h) (inputAt input h) ≡ gives input h
-unfolding Ao.givenByInput caseOf gives isFailSafe failSafeActs inputAt aoAt aoBy
-given-same input h small = ap (λ (b : Bool). Ao.givenBy (aoAt h) (oldOut h) (cond b (failSafeCase (stored h 3 24 .first) (floatOf (stored h 3 25 .first)) (came input h) (setpoint input h)) (following (setpoint input h)))) (acts-same (came input h) (silence input h) (ifs input h) (stored h 3 23 .first) small)
+module _ (h : History Event) where
+  -- "1 − f"
+  one-is : floatOf 0x3f80_0000 ≡ ofInt binary32 (pos 1)
+  unfolding ofBits ofInt
+  one-is = refl
 
--- in Auto and RCas, by the input that the mode uses
-module _ (s : AoSettings) (x : AoState) where
-  in-use : (m : ℕ) → T (follows m) → Ao.givenIn s x m ≡ Ao.givenByInput s (x .out .bits) (Ao.inputUsed x m)
-  unfolding Ao.givenIn byMode
-  in-use m t = go (eqb m auto) refl t
+  scaled-is : (w : Float) → Ao.scaledOut (aoAt h) w ≡ aoScaled h w
+  unfolding Ao.scaledOut aoScaled aoAt
+  scaled-is w = ap (λ (one : Float). atFraction (scale h 3 38) (cond (eqb (code h 3 36) 1) (sub binary32 one (fractionOf (scale h 3 11) w)) (fractionOf (scale h 3 11) w))) one-is
+
+  working-is : (w : Float) (status : ℕ) → shown (scaledOr (oldOut 3 h) status (Ao.outOf (aoAt h) w)) ≡ working h w status
+  unfolding Ao.outOf working
+  working-is w status = ap (λ (x : Float). shown (scaledOr (oldOut 3 h) status (cond (finite x) (some (bitsOf x)) none))) (scaled-is w) ∙ go (finite (aoScaled h w))
     where
-      go : (b : Bool) → eqb m auto ≡ b → T (b || eqb m rcas) → Ao.givenIn s x m ≡ Ao.givenByInput s (x .out .bits) (Ao.inputUsed x m)
-      go true e t = rw (borrow.Author.Tests.eqb-true m auto e)
-      go false e t = rw (eqb→eq m rcas t)
+      go : (f : Bool) → shown (scaledOr (oldOut 3 h) status (cond f (some (bitsOf (aoScaled h w))) none)) ≡ cond f (positioned (bitsOf (aoScaled h w)) status) (positioned (oldOut 3 h) 0x04)
+      go true = refl
+      go false = refl
+
+  -- in Auto and RCas, by the input in use
+  by-input : (input : ℕ) → code h 3 23 ≤ 65535 → shown (Ao.givenByInput (aoAt h) (oldOut 3 h) (inputAt input h)) ≡ aoBy input h
+  unfolding Ao.givenByInput Ao.givenBy leadsTo caseOf failSafeCase aoBy aoFailSafe isFailSafe failSafeActs inputAt aoAt
+  by-input input small =
+      ap (λ (f : Bool). led f (eqb (code h 3 24) 0) (eqb (code h 3 24) 1) (came input h)) (acts-same (came input h) (silence input h) (ifs input h) (code h 3 23) small)
+      ∙ go (isFailSafe input h) (eqb (code h 3 24) 0) (eqb (code h 3 24) 1) (came input h)
+    where
+      led : (f a b c : Bool) → Given
+      led f a b c = shown (leadsTo (Ao.outOf (aoAt h)) (oldOut 3 h) (cond f (cond a (fallback (float h 3 25)) (cond b (cond c (held (setpoint input h)) nothingHeld) safety)) (following (setpoint input h))))
+
+      go : (f a b c : Bool) → led f a b c ≡ cond f (cond a (working h (float h 3 25) 0x48) (cond b (cond c (working h (setpoint input h) 0x44) (positioned (oldOut 3 h) 0x4c)) (record { out = pair (oldOut 3 h) 0x00; order = Order.Safe }))) (working h (setpoint input h) 0x80)
+      go false a b c = working-is (setpoint input h) 0x80
+      go true true b c = working-is (float h 3 25) 0x48
+      go true false true true = working-is (setpoint input h) 0x44
+      go true false true false = refl
+      go true false false c = refl
+
+  module _ (S : Sound h) (fault : Bool) (old : given 3 h .bits ≡ oldOut 3 h) where
+    abbrev m : ℕ
+    m = modeAt h fault 3
+
+    -- in every mode
+    pub given-is : shown (Ao.givenIn (aoAt h) (aoIn h) m) ≡ cond (eqb m outOfService) (record { out = Rules.held (given 3 h); order = Order.Rest }) (aoGives h fault)
+    unfolding Ao.givenIn byMode aoGives aoIn Ao.inputUsed
+    given-is = go (ao-mode-at h S fault)
+      where
+        by-old : (input : ℕ) → shown (Ao.givenByInput (aoAt h) (given 3 h .bits) (inputAt input h)) ≡ aoBy input h
+        by-old input = ap (λ (bits : ℕ). shown (Ao.givenByInput (aoAt h) bits (inputAt input h))) old ∙ by-input input (time-small h S)
+
+        go : IsAoMode m → shown (Ao.givenIn (aoAt h) (aoIn h) m) ≡ cond (eqb m outOfService) (record { out = Rules.held (given 3 h); order = Order.Rest }) (aoGives h fault)
+        go (inl (inl e)) = rw e
+        go (inl (inr (inl e))) = rw e
+        go (inl (inr (inr e))) = rw e (by-old 0)
+        go (inr e) = rw e (by-old 1)
 
 -- ---- the tick
 
-module _ (d : Device) (h : History Event) (A : Agrees d h) (S : Sound h) (fault : Bool) (ain tot : Pair) where
+module _ (h : History Event) (S : Sound h) (fault : Bool) (ain tot : Pair) (ainOld : given 1 h .bits ≡ oldOut 1 h) (aoOld : given 3 h .bits ≡ oldOut 3 h) where
   abbrev pub next : Device
-  next = tickOf d fault ain tot .device
+  next = tickOf (deviceOf h) fault ain tot .device
 
-  abbrev pub order : Rattle.ao.specs.declared.Order.Order
-  order = tickOf d fault ain tot .order
-
-  -- each block's tick goes by the settings of the rules
-  ain-next : next .ain .state ≡ Ain.tickBy (ainAt h) (d .ain .state) (modeAt h fault 1) (ain .bits) (ain .status)
-  unfolding tickOf Ain.tickOf modeAt actualMode ainAt ainBy
-  ain-next = ap (λ (s : AinSettings). Ain.tickOf s (d .ain .state) fault (ain .bits) (ain .status)) (A .ain)
-
-  tot-next : next .tot .state ≡ Tot.tickBy (totAt h) (d .tot .state) (modeAt h fault 2) (tot .bits) (tot .status)
-  unfolding tickOf Tot.tickOf modeAt actualMode totAt totBy
-  tot-next = ap (λ (s : TotSettings). Tot.tickOf s (d .tot .state) fault (tot .bits) (tot .status)) (A .tot)
-
-  ao-next : next .ao .state ≡ Ao.tickedWith (d .ao .state) (modeAt h fault 3) (Ao.givenIn (aoAt h) (d .ao .state) (modeAt h fault 3)) .state
-  unfolding tickOf Ao.tickOf modeAt actualMode aoAt aoBy
-  ao-next = ap (λ (s : AoSettings). Ao.tickOf s (d .ao .state) fault .state) (A .ao)
-
-  ao-order : order ≡ Ao.driveOrder (Ao.givenIn (aoAt h) (d .ao .state) (modeAt h fault 3) .order)
-  unfolding tickOf Ao.tickOf Ao.tickedWith modeAt actualMode aoAt aoBy
-  ao-order = ap (λ (s : AoSettings). Ao.tickOf s (d .ao .state) fault .order) (A .ao)
-
-  -- the input in use, by the rules
-  used : (m : ℕ) → Ao.inputUsed (d .ao .state) m ≡ inputAt (inputIn m) h
-  unfolding Ao.inputUsed
-  used m = go (eqb m rcas)
-    where
-      go : (b : Bool) → cond b (d .ao .state .«rcas_in») (d .ao .state .sp) ≡ inputAt (cond b 1 0) h
-      go true = A .rcasIn
-      go false = A .sp
-
-  given-is : T (follows (modeAt h fault 3)) → Ao.givenIn (aoAt h) (d .ao .state) (modeAt h fault 3) ≡ gives (inputIn (modeAt h fault 3)) h
-  given-is t =
-      in-use (aoAt h) (d .ao .state) (modeAt h fault 3) t
-      ∙ ap (λ (n : ℕ). Ao.givenByInput (aoAt h) n (Ao.inputUsed (d .ao .state) (modeAt h fault 3))) (A .old)
-      ∙ ap (λ (i : Setpoint). Ao.givenByInput (aoAt h) (oldOut h) i) (used (modeAt h fault 3))
-      ∙ given-same (inputIn (modeAt h fault 3)) h (time-small h S)
-
-  -- what reads of OUT give after it
-  module _ (ainOut aoOut : Words) (ainRead : words (next .ain .state .out .bits) (next .ain .state .out .status) ≡ ainOut) (aoRead : words (next .ao .state .out .bits) (next .ao .state .out .status) ≡ aoOut) where
+  module _ (ainOut aoOut : Words) (given-order : Order) where
     abbrev after : History Event
-    after = h ▷ ticked fault ain tot ainOut aoOut order
+    after = h ▷ ticked fault ain tot ainOut aoOut given-order
 
-    filter-then : next .ain .state .filter ≡ filterValue after
-    unfolding filterValue carried
-    filter-then =
-        ap (λ (st : AinState). st .filter) ain-next
-        ∙ ain-filter (ainAt h) (d .ain .state) (ain .bits) (ain .status) (modeAt h fault 1) (ain-mode h S fault)
-        ∙ ap (λ (k : Kept). cond (eqb (modeAt h fault 1) auto) (Rattle.history.specs.Rules.whereUsable (Ain.inputOf (ainAt h) k (ain .bits) (ain .status)) (kept (Ain.calculated (ainAt h) k (ain .bits))) k) none) (A .filter)
+    -- the pairs given, whatever the reads say
+    pub ain-given : next .ain .state .out ≡ given 1 after
+    unfolding tickOf deviceOf Ain.tickOf actualMode modeAt ainAt given carried
+    ain-given = ap (λ (x : AinState). x .out) (ain-is h ain ainOld fault (ain-mode h S fault))
 
-    alarms-next : next .ain .state .alarms ≡ alarmsAt after
-    alarms-next =
-        ap (λ (st : AinState). st .alarms) ain-next
-        ∙ ain-alarms (ainAt h) (d .ain .state) (ain .bits) (ain .status) (modeAt h fault 1)
-        ∙ ap (λ (b : ℕ). cond (eqb (modeAt h fault 1) outOfService) noAlarms (alarmsOf (ainAt h) (d .ain .state .alarms) (floatOf b))) (sym (ap (λ (st : AinState). st .out .bits) ain-next) ∙ ap (λ (w : Words). w .first) ainRead)
-        ∙ ap (λ (k : Alarms). cond (eqb (modeAt h fault 1) outOfService) noAlarms (alarmsOf (ainAt h) k (floatOf (ainOut .first)))) (A .alarms)
-        ∙ alarms-then h fault ain tot ainOut aoOut order
-
-    total-then : next .tot .state .total ≡ total after
-    unfolding total carried totAt totBy
-    total-then =
-        ap (λ (st : TotState). st .total) tot-next
-        ∙ tot-total (totAt h) (d .tot .state) (tot .bits) (tot .status) (modeAt h fault 2) (tot-mode h S fault) (set-small h S)
-        ∙ ap (λ (k : Kept). cond (eqb (modeAt h fault 2) auto) (totalBy (totAt h) k tot (d .tot .state .total)) (d .tot .state .total)) (A .rate)
-        ∙ ap (λ (z : lib.IntN.ℤ). cond (eqb (modeAt h fault 2) auto) (totalBy (totAt h) (rateValue h) tot z) z) (A .total)
-
-    rate-then : next .tot .state .rate ≡ rateValue after
-    unfolding rateValue carried
-    rate-then =
-        ap (λ (st : TotState). st .rate) tot-next
-        ∙ tot-rate (totAt h) (d .tot .state) (tot .bits) (tot .status) (modeAt h fault 2) (tot-mode h S fault)
-        ∙ ap (λ (k : Kept). cond (eqb (modeAt h fault 2) auto) (Tot.tickRate k (tot .bits) (tot .status)) k) (A .rate)
-
-    pub agrees-tick : Agrees (tickOf d fault ain tot .device) (h ▷ ticked fault ain tot ainOut aoOut (tickOf d fault ain tot .order))
-    unfolding tickOf stored latest ainAt totAt aoAt stRev count oldOut carried
-    agrees-tick = record {
-      lock = A .lock;
-      ain = A .ain;
-      tot = A .tot;
-      ao = A .ao;
-      ainRev = A .ainRev;
-      totRev = A .totRev;
-      aoRev = A .aoRev;
-      filter = filter-then;
-      alarms = alarms-next;
-      total = total-then;
-      rate = rate-then;
-      old = ap (λ (w : Words). w .first) aoRead;
-      sp = ap (λ (st : AoState). st .sp) ao-next ∙ sp-then;
-      rcasIn = ap (λ (st : AoState). st .«rcas_in») ao-next ∙ rcas-then;
-    }
+    pub ao-given : next .ao .state .out ≡ given 3 after
+    unfolding tickOf deviceOf Ao.tickOf Ao.tickedWith actualMode modeAt aoAt given carried
+    ao-given = ap (λ (g : Given). g .out) (given-is h S fault aoOld) ∙ go (eqb (modeAt h fault 3) outOfService)
       where
-        sp-then : Ao.tickedWith (d .ao .state) (modeAt h fault 3) (Ao.givenIn (aoAt h) (d .ao .state) (modeAt h fault 3)) .state .sp ≡ inputAt 0 after
-        sp-then = unfold Ao.tickedWith in (ap Ao.inputAfterTick (A .sp) ∙ input-then 0 h fault ain tot ainOut aoOut order)
+        go : (b : Bool) → cond b (record { out = Rules.held (given 3 h); order = Order.Rest }) (aoGives h fault) .out ≡ cond b (Rules.held (given 3 h)) (aoGives h fault .out)
+        go true = refl
+        go false = refl
 
-        rcas-then : Ao.tickedWith (d .ao .state) (modeAt h fault 3) (Ao.givenIn (aoAt h) (d .ao .state) (modeAt h fault 3)) .state .«rcas_in» ≡ inputAt 1 after
-        rcas-then = unfold Ao.tickedWith in (ap Ao.inputAfterTick (A .rcasIn) ∙ input-then 1 h fault ain tot ainOut aoOut order)
+    pub order-is : tickOf (deviceOf h) fault ain tot .order ≡ order h fault
+    unfolding tickOf deviceOf Ao.tickOf Ao.tickedWith actualMode modeAt aoAt order
+    order-is = ap (λ (g : Given). g .order) (given-is h S fault aoOld) ∙ go (eqb (modeAt h fault 3) outOfService)
+      where
+        go : (b : Bool) → cond b (record { out = Rules.held (given 3 h); order = Order.Rest }) (aoGives h fault) .order ≡ cond b Order.Rest (aoGives h fault .order)
+        go true = refl
+        go false = refl
 
-    good-then : T (eqb (modeAt h fault 1) auto) → good (ainOut .second) ≡ (good (ain .status) && finite (Ain.calculated (ainAt h) (filterValue h) (ain .bits)))
-    unfolding Ain.tickBy
-    good-then t =
-        ap (λ (w : Words). good (w .second)) (sym ainRead)
-        ∙ ap (λ (st : AinState). good (st .out .status)) ain-next
-        ∙ ap (λ (m : ℕ). good (Ain.tickBy (ainAt h) (d .ain .state) m (ain .bits) (ain .status) .out .status)) (eqb→eq (modeAt h fault 1) auto t)
-        ∙ good-exactly (ainAt h) (d .ain .state) auto (ain .bits) (ain .status)
-        ∙ ap (λ (k : Kept). good (ain .status) && finite (Ain.calculated (ainAt h) k (ain .bits))) (A .filter)
+    pub good-is : T (isAuto h fault 1) → good (next .ain .state .out .status) ≡ (good (ain .status) && finite (calculated h (filterValue h) ain))
+    unfolding tickOf deviceOf Ain.tickOf actualMode modeAt ainAt
+    good-is t =
+        ap (λ (m : ℕ). good (Ain.tickBy (ainAt h) (ainIn h) m (ain .bits) (ain .status) .out .status)) (eqb→eq (modeAt h fault 1) auto t)
+        ∙ (unfold Ain.tickBy in good-exactly (ainAt h) (ainIn h) auto (ain .bits) (ain .status))
+        ∙ (unfold ainIn in ap (λ (x : Float). good (ain .status) && finite x) (calculated-is h ain (filterValue h)))
 
-    pub claim-tick : TickClaim h fault ain ainOut aoOut (tickOf d fault ain tot .order)
-    unfolding Ao.tickedWith
-    claim-tick = record {
-      output = λ t. sym aoRead ∙ ap (λ (st : AoState). words (st .out .bits) (st .out .status)) ao-next ∙ ap (λ (g : GivenOf ℕ). words (g .value) (g .status)) (given-is t);
-      drive = λ t. ao-order ∙ ap (λ (g : GivenOf ℕ). Ao.driveOrder (g .order)) (given-is t);
-      quality = good-then;
-    }
+    -- the alarms go by the OUT that is read
+    module _ (ainRead : ainOut .first ≡ given 1 after .bits) where
+      alarms-next : cond (eqb (modeAt h fault 1) outOfService) noAlarms (alarmsOf (ainAt h) (alarmsAt h) (floatOf (ainGives h fault ain .bits))) ≡ alarmsAt after
+      unfolding given carried
+      alarms-next = go (eqb (modeAt h fault 1) outOfService) ainRead ∙ alarms-then h fault ain tot ainOut aoOut given-order
+        where
+          go : (b : Bool) → ainOut .first ≡ cond b (Rules.held (given 1 h)) (ainGives h fault ain) .bits
+              → cond b noAlarms (alarmsOf (ainAt h) (alarmsAt h) (floatOf (ainGives h fault ain .bits))) ≡ cond b noAlarms (alarmsOf (ainAt h) (alarmsAt h) (floatOf (ainOut .first)))
+          go true e = refl
+          go false e = ap (λ (bits : ℕ). alarmsOf (ainAt h) (alarmsAt h) (floatOf bits)) (sym e)
+
+      ain-then : next .ain .state ≡ ainIn after
+      unfolding tickOf deviceOf Ain.tickOf actualMode modeAt ainAt
+      ain-then = ain-is h ain ainOld fault (ain-mode h S fault) ∙ (unfold ainIn given actual operator latest filterValue lastUsable carried in (λ i. record {
+        out = given 1 after;
+        mode = modeAt h fault 1;
+        filter = keptOf (filterValue after);
+        last = keptOf (lastUsable after);
+        operator = operator 1 h;
+        alarms = alarms-next i;
+      }))
+
+      tot-then : next .tot .state ≡ totIn after
+      unfolding tickOf deviceOf Tot.tickOf actualMode modeAt totAt totIn given actual operator latest rateValue total carried
+      tot-then = tot-is h tot (set-small h S) fault (tot-mode h S fault)
+
+      ao-then : next .ao .state ≡ aoIn after
+      unfolding tickOf deviceOf Ao.tickOf Ao.tickedWith actualMode modeAt aoAt aoIn actual operator latest carried
+      ao-then = λ i. record {
+        out = ao-given i;
+        mode = modeAt h fault 3;
+        operator = operator 3 h;
+        sp = input-then 0 h fault ain tot ainOut aoOut given-order i;
+        «rcas_in» = input-then 1 h fault ain tot ainOut aoOut given-order i;
+      }
+
+      pub ruled-tick : tickOf (deviceOf h) fault ain tot .device ≡ deviceOf (h ▷ ticked fault ain tot ainOut aoOut given-order)
+      unfolding tickOf deviceOf stored latest ainAt totAt aoAt stRev count
+      ruled-tick = λ i. record {
+        «write_locking» = code h 0 18;
+        ain = record { settings = ainAt h; state = ain-then i; «st_rev» = stRev h 1 };
+        tot = record { settings = totAt h; state = tot-then i; «st_rev» = stRev h 2 };
+        ao = record { settings = aoAt h; state = ao-then i; «st_rev» = stRev h 3 };
+      }

@@ -1,26 +1,38 @@
--- What a tick leaves in each block, by its actual mode, in the terms of the history rules. Assumes nothing.
+-- What a tick leaves in each block, by its actual mode, is what the rules say of it. Assumes nothing.
 use Prim.Native.Nat.{ℕ, _≤_}
 use native.Mathlib.Omega.{arith}
-use mathlib.Core.Path.{_≡_, refl, subst}
-use mathlib.Core.Bool.{Bool, true, false, _&&_, _||_, cond}
+use mathlib.Core.Path.{_≡_, refl, sym, ap, _∙_, subst}
+use mathlib.Core.Bool.{Bool, true, false, not, _&&_, _||_, cond}
 use mathlib.Core.Logic.{_⊎_, inl, inr}
+use mathlib.Core.Option.{Option, none, some}
 use lib.Dec.{T, eqb, eqb→eq}
+use lib.IntN.{ℤ, pos}
+use lib.Ieee.{Float, binary32, ofInt, eq}
 use lib.Ieee.Fits.{and-l}
-use Rattle.numbers.specs.Floats.{floatOf}
+use lib.Ieee.Scale.{finite}
+use Rattle.numbers.specs.Floats.{floatOf, bitsOf}
+use Rattle.wire.specs.declared.Pair.{Pair}
+use Rattle.wire.specs.Status.{qualityOf}
+use Rattle.blocks.specs.declared.Kept.{Kept}
 use Rattle.blocks.specs.declared.Input.{Input}
 use Rattle.blocks.specs.declared.Input.the-variants.{Usable, Bad}
-use Rattle.blocks.specs.Common.{outOfService, man, auto, rcas, actualMode, none, kept}
+use Rattle.blocks.specs.Common.{actualMode, inputStatus}
+use Rattle.blocks.specs.Common as Common
 use Rattle.parameters.specs.declared.Allowed.the-variants.{Mode}
 use Rattle.parameters.specs.Words.{allowsOf}
 use Rattle.ain.specs.declared.Settings.{Settings as AinSettings}
 use Rattle.ain.specs.declared.State.{State as AinState}
-use Rattle.ain.specs.Alarm.{alarmsOf, noAlarms}
+use Rattle.ain.specs.Scaling.{scaledOf, filtered}
+use Rattle.ain.specs.Alarm.{rises, falls, alarmStands, alarmsOf, noAlarms, alarmStatus}
 use Rattle.ain.specs.Tick as Ain
 use Rattle.tot.specs.declared.Settings.{Settings as TotSettings}
 use Rattle.tot.specs.declared.State.{State as TotState}
-use Rattle.tot.specs.Total.{nextTotal}
+use Rattle.tot.specs.Total.{incrementOf, wanted, nextTotal, valueGiven, givenBits, thousandthsOf, sumOf}
 use Rattle.tot.specs.Tick as Tot
-use Rattle.history.specs.Rules.{whereUsable, totalBy}
+use Rattle.history.specs.Past.{History}
+use Rattle.history.specs.Calls.{Event}
+use Rattle.history.specs.Rules.{pair, code, float, outOfService, man, auto, rcas, modeAt, operator, oldOut, badStatus, ifUsable, scaled, calculated, ainBad, filterValue, lastUsable, stands, standsWith, alarmed, ainFailSafe, ainAuto, ainGives, totBad, rateValue, wantedBy, addedRate, adds, totalBy, total, totStatus, totGives, given, held}
+use Rattle.history.proofs.Ruled.{keptOf, alarmsAt, ainAt, ainIn, totAt, totIn}
 
 -- ---- the modes
 
@@ -82,75 +94,266 @@ ao-mode false a m = go (eqb a outOfService) m
     go true m = inl (inl refl)
     go false m = m
 
+-- ---- input status
+
+abbrev inputFrom : Option ℕ → Input
+inputFrom none = Usable
+inputFrom (some bad) = Bad bad
+
+status-is : (status : ℕ) (value calculated : Bool) → inputStatus status value calculated ≡ inputFrom (badStatus status value calculated)
+unfolding inputStatus badStatus
+status-is status value calculated = go (eqb (qualityOf status) 3) (eqb (qualityOf status) 0) value calculated
+  where
+    go : (a b c d : Bool) → cond a (Bad 0x04) (cond b (Bad status) (cond (not c) (Bad 0x10) (cond (not d) (Bad 0x04) Usable))) ≡ inputFrom (cond a (some 0x04) (cond b (some status) (cond (not c) (some 0x10) (cond (not d) (some 0x04) none))))
+    go true b c d = refl
+    go false true c d = refl
+    go false false false d = refl
+    go false false true false = refl
+    go false false true true = refl
+
 -- ---- AIN
 
-module _ (s : AinSettings) (st : AinState) (bits status : ℕ) where
-  abbrev ain : ℕ → AinState
-  ain m = Ain.tickBy s st m bits status
+either-way : {A : Type 0} (b : Bool) (x y : A) → cond (b || true) x y ≡ x
+either-way true x y = refl
+either-way false x y = refl
 
-  ain-auto-filter : (m : ℕ) (i : Input) → Ain.autoBy s st m bits status i .filter ≡ whereUsable i (kept (Ain.calculated s (st .filter) bits)) (st .filter)
-  unfolding Ain.autoBy Ain.usableTick Ain.unusableTick
-  ain-auto-filter m Usable = refl
-  ain-auto-filter m (Bad bad) = refl
+first-way : {A : Type 0} (b : Bool) (x y : A) → cond (b || false) x y ≡ cond b x y
+first-way true x y = refl
+first-way false x y = refl
 
-  pub ain-filter : (m : ℕ) → IsMode m → ain m .filter ≡ cond (eqb m auto) (whereUsable (Ain.inputOf s (st .filter) bits status) (kept (Ain.calculated s (st .filter) bits)) (st .filter)) none
-  unfolding Ain.tickBy Ain.outOfServiceTick Ain.manTick Ain.autoTick
-  ain-filter m (inl e) = rw e
-  ain-filter m (inr (inl e)) = rw e
-  ain-filter m (inr (inr e)) = rw e (ain-auto-filter auto (Ain.inputOf s (st .filter) bits status))
+module _ (h : History Event) (ain : Pair) where
+  pub calculated-is : (old : Option Float) → Ain.calculated (ainAt h) (keptOf old) (ain .bits) ≡ calculated h old ain
+  unfolding Ain.calculated Ain.scaledValue scaledOf filtered calculated scaled ainAt
+  calculated-is none = either-way (eq (float h 1 16) (ofInt binary32 (pos 0))) (scaled h ain) _
+  calculated-is (some pv) = first-way (eq (float h 1 16) (ofInt binary32 (pos 0))) (scaled h ain) _
 
-  ain-auto-alarms : (m : ℕ) (i : Input) → Ain.autoBy s st m bits status i .alarms ≡ alarmsOf s (st .alarms) (floatOf (Ain.autoBy s st m bits status i .out .bits))
-  unfolding Ain.autoBy Ain.usableTick Ain.unusableTick
-  ain-auto-alarms m Usable = refl
-  ain-auto-alarms m (Bad bad) = refl
+  input-is : (old : Option Float) → Ain.inputOf (ainAt h) (keptOf old) (ain .bits) (ain .status) ≡ inputFrom (ainBad h old ain)
+  unfolding Ain.inputOf ainBad Ain.scaledValue scaledOf scaled ainAt
+  input-is old =
+      ap (λ (x : Float). inputStatus (ain .status) (finite (floatOf (ain .bits))) (finite (scaled h ain) && finite x)) (calculated-is old)
+      ∙ status-is (ain .status) (finite (floatOf (ain .bits))) (finite (scaled h ain) && finite (calculated h old ain))
 
-  pub ain-alarms : (m : ℕ) → ain m .alarms ≡ cond (eqb m outOfService) noAlarms (alarmsOf s (st .alarms) (floatOf (ain m .out .bits)))
-  unfolding Ain.tickBy Ain.outOfServiceTick Ain.manTick Ain.autoTick
-  ain-alarms m = go (eqb m outOfService) (eqb m man)
-    where
-      after : (p q : Bool) → AinState
-      after p q = cond p (Ain.outOfServiceTick st) (cond q (Ain.manTick s st) (Ain.autoTick s st m bits status))
+  -- an Auto tick, by the Bad status
+  abbrev byBad : ℕ → Option ℕ → AinState
+  byBad m bad = Ain.autoBy (ainAt h) (ainIn h) m (ain .bits) (ain .status) (inputFrom bad)
 
-      go : (p q : Bool) → after p q .alarms ≡ cond p noAlarms (alarmsOf s (st .alarms) (floatOf (after p q .out .bits)))
-      go true q = refl
-      go false true = refl
-      go false false = ain-auto-alarms m (Ain.inputOf s (st .filter) bits status)
+  auto-is : (m : ℕ) → Ain.autoTick (ainAt h) (ainIn h) m (ain .bits) (ain .status) ≡ byBad m (ainBad h (filterValue h) ain)
+  unfolding Ain.autoTick ainIn
+  auto-is m = ap (Ain.autoBy (ainAt h) (ainIn h) m (ain .bits) (ain .status)) (input-is (filterValue h))
+
+  module _ (old : given 1 h .bits ≡ oldOut 1 h) where
+    fail-safe-is : (bad : ℕ) → Ain.failSafeOut (code h 1 17) (float h 1 18) (keptOf (lastUsable h)) (scaled h ain) (given 1 h) bad ≡ ainFailSafe h ain bad
+    unfolding Ain.failSafeOut ainFailSafe
+    fail-safe-is bad = ap (λ (bits : ℕ). byOld bits) old ∙ go (eqb (code h 1 17) 0) (eqb (code h 1 17) 1) (lastUsable h) (finite (scaled h ain))
+      where
+        byOld : ℕ → Pair
+        byOld bits =
+            cond (eqb (code h 1 17) 0) (pair (bitsOf (float h 1 18)) 0x48)
+            (cond (eqb (code h 1 17) 1)
+            (cond (keptOf (lastUsable h) .some) (pair (bitsOf (keptOf (lastUsable h) .value)) 0x44) (pair 0 0x4c))
+            (cond (finite (scaled h ain)) (pair (bitsOf (scaled h ain)) bad) (pair bits bad)))
+
+        last : Option Float → Pair
+        last none = pair 0 0x4c
+        last (some x) = pair (bitsOf x) 0x44
+
+        go : (a b : Bool) (o : Option Float) (f : Bool)
+            → cond a (pair (bitsOf (float h 1 18)) 0x48) (cond b (cond (keptOf o .some) (pair (bitsOf (keptOf o .value)) 0x44) (pair 0 0x4c)) (cond f (pair (bitsOf (scaled h ain)) bad) (pair (oldOut 1 h) bad)))
+            ≡ cond a (pair (bitsOf (float h 1 18)) 0x48) (cond b (last o) (pair (cond f (bitsOf (scaled h ain)) (oldOut 1 h)) bad))
+        go true b o f = refl
+        go false true none f = refl
+        go false true (some x) f = refl
+        go false false o true = refl
+        go false false o false = refl
+
+    -- an Auto tick in the rules' terms
+    abbrev worked : ℕ → Option ℕ → AinState
+    worked m bad = record {
+      out = ainAuto h ain bad;
+      mode = m;
+      filter = keptOf (ifUsable bad (some (calculated h (filterValue h) ain)) (filterValue h));
+      last = keptOf (ifUsable bad (some (calculated h (filterValue h) ain)) (lastUsable h));
+      operator = operator 1 h;
+      alarms = alarmsOf (ainAt h) (alarmsAt h) (floatOf (ainAuto h ain bad .bits));
+    }
+
+    usable-is : (m : ℕ) → byBad m none ≡ worked m none
+    unfolding Ain.autoBy Ain.usableTick ainAt ainIn alarmsAt alarmsOf alarmStands rises falls alarmStatus alarmed standsWith
+    usable-is m = λ i. record {
+      out = pair (bitsOf (calculated-is (filterValue h) i)) (alarmed h (bitsOf (calculated-is (filterValue h) i)) (ain .status));
+      mode = m;
+      filter = Common.kept (calculated-is (filterValue h) i);
+      last = Common.kept (calculated-is (filterValue h) i);
+      operator = operator 1 h;
+      alarms = alarmsOf (ainAt h) (alarmsAt h) (floatOf (bitsOf (calculated-is (filterValue h) i)));
+    }
+
+    unusable-is : (m bad : ℕ) → byBad m (some bad) ≡ worked m (some bad)
+    unfolding Ain.autoBy Ain.unusableTick Ain.scaledValue scaledOf scaled ainAt ainIn
+    unusable-is m bad = λ i. record {
+      out = fail-safe-is bad i;
+      mode = m;
+      filter = keptOf (filterValue h);
+      last = keptOf (lastUsable h);
+      operator = operator 1 h;
+      alarms = alarmsOf (ainAt h) (alarmsAt h) (floatOf (fail-safe-is bad i .bits));
+    }
+
+    module _ (fault : Bool) where
+      abbrev ainTick : AinState
+      ainTick = Ain.tickBy (ainAt h) (ainIn h) (modeAt h fault 1) (ain .bits) (ain .status)
+
+      ain-auto : modeAt h fault 1 ≡ auto → ainTick ≡ worked auto (ainBad h (filterValue h) ain)
+      unfolding Ain.tickBy
+      ain-auto e = rw e (auto-is auto ∙ go (ainBad h (filterValue h) ain))
+        where
+          go : (bad : Option ℕ) → byBad auto bad ≡ worked auto bad
+          go none = usable-is auto
+          go (some bad) = unusable-is auto bad
+
+      ain-man : modeAt h fault 1 ≡ man → ainTick ≡ Ain.manTick (ainAt h) (ainIn h)
+      unfolding Ain.tickBy
+      ain-man e = rw e
+
+      ain-out : modeAt h fault 1 ≡ outOfService → ainTick ≡ Ain.outOfServiceTick (ainIn h)
+      unfolding Ain.tickBy
+      ain-out e = rw e
+
+      -- the whole tick, in its actual mode
+      pub ain-is : IsMode (modeAt h fault 1) → ainTick ≡ record {
+        out = cond (eqb (modeAt h fault 1) outOfService) (held (given 1 h)) (ainGives h fault ain);
+        mode = modeAt h fault 1;
+        filter = keptOf (cond (eqb (modeAt h fault 1) auto) (ifUsable (ainBad h (filterValue h) ain) (some (calculated h (filterValue h) ain)) (filterValue h)) none);
+        last = keptOf (cond (eqb (modeAt h fault 1) auto) (ifUsable (ainBad h (filterValue h) ain) (some (calculated h (filterValue h) ain)) (lastUsable h)) (lastUsable h));
+        operator = operator 1 h;
+        alarms = cond (eqb (modeAt h fault 1) outOfService) noAlarms (alarmsOf (ainAt h) (alarmsAt h) (floatOf (ainGives h fault ain .bits)));
+      }
+      unfolding ainGives ainIn Ain.manTick Ain.outOfServiceTick
+      ain-is (inl e) = ain-out e ∙ sym (rw e)
+      ain-is (inr (inl e)) = ain-man e ∙ sym (rw e)
+      ain-is (inr (inr e)) = ain-auto e ∙ sym (rw e)
 
 -- ---- TOT
 
-module _ (s : TotSettings) (st : TotState) (bits status : ℕ) where
-  abbrev tot : ℕ → TotState
-  tot m = Tot.tickBy s st m bits status
+module _ (h : History Event) (tot : Pair) where
+  tot-input : Tot.inputOf (tot .bits) (tot .status) ≡ inputFrom (totBad tot)
+  unfolding Tot.inputOf totBad
+  tot-input = status-is (tot .status) (finite (floatOf (tot .bits))) true
 
-  pub tot-rate : (m : ℕ) → IsMode m → tot m .rate ≡ cond (eqb m auto) (Tot.tickRate (st .rate) bits status) (st .rate)
-  unfolding Tot.tickBy Tot.outOfServiceTick Tot.manTick Tot.autoTick
-  tot-rate m (inl e) = rw e
-  tot-rate m (inr (inl e)) = rw e
-  tot-rate m (inr (inr e)) = rw e
+  rate-is : Tot.tickRate (keptOf (rateValue h)) (tot .bits) (tot .status) ≡ keptOf (ifUsable (totBad tot) (some (floatOf (tot .bits))) (rateValue h))
+  unfolding Tot.tickRate
+  rate-is = ap (Tot.lastRate (keptOf (rateValue h)) (floatOf (tot .bits))) tot-input ∙ go (totBad tot)
+    where
+      go : (bad : Option ℕ) → Tot.lastRate (keptOf (rateValue h)) (floatOf (tot .bits)) (inputFrom bad) ≡ keptOf (ifUsable bad (some (floatOf (tot .bits))) (rateValue h))
+      go none = refl
+      go (some bad) = refl
+
+  kept-adds : (rate : Option Float) → Tot.adds (code h 2 14) (keptOf rate) ≡ adds h rate
+  unfolding Tot.adds wanted wantedBy
+  kept-adds none = refl
+  kept-adds (some x) = refl
+
+  adds-is : Tot.tickAdds (code h 2 14) (code h 2 15) (keptOf (rateValue h)) (tot .bits) (tot .status) ≡ adds h (addedRate h tot (totBad tot))
+  unfolding Tot.tickAdds Tot.failRate
+  adds-is = ap (λ (i : Input). Tot.adds (code h 2 14) (Tot.addedRate (code h 2 15) (keptOf (rateValue h)) (floatOf (tot .bits)) i)) tot-input ∙ go (totBad tot)
+    where
+      fail : (run hold fine : Bool) → cond run (cond fine (Common.kept (floatOf (tot .bits))) Common.none) (cond hold Common.none (keptOf (rateValue h))) ≡ keptOf (cond run (cond fine (some (floatOf (tot .bits))) none) (cond hold none (rateValue h)))
+      fail true hold true = refl
+      fail true hold false = refl
+      fail false true fine = refl
+      fail false false fine = refl
+
+      go : (bad : Option ℕ) → Tot.adds (code h 2 14) (Tot.addedRate (code h 2 15) (keptOf (rateValue h)) (floatOf (tot .bits)) (inputFrom bad)) ≡ adds h (addedRate h tot bad)
+      go none = kept-adds (some (floatOf (tot .bits)))
+      go (some bad) = ap (Tot.adds (code h 2 14)) (fail (eqb (code h 2 15) 0) (eqb (code h 2 15) 1) (finite (floatOf (tot .bits)))) ∙ kept-adds (addedRate h tot (some bad))
+
+  tot-status : Tot.tickStatus (code h 2 13) (code h 2 15) (keptOf (rateValue h)) (tot .bits) (tot .status) ≡ totStatus h (tot .status) (totBad tot)
+  unfolding Tot.tickStatus Tot.failStatus
+  tot-status = ap (Tot.autoStatus (code h 2 13) (code h 2 15) (keptOf (rateValue h)) (tot .status)) tot-input ∙ go (totBad tot)
+    where
+      memory : Option Float → ℕ
+      memory none = 0x4c
+      memory (some rate) = 0x44
+
+      by : (bad : ℕ) (run hold : Bool) (o : Option Float) → cond run bad (cond hold 0x40 (cond (keptOf o .some) 0x44 0x4c)) ≡ cond run bad (cond hold 0x40 (memory o))
+      by bad true hold o = refl
+      by bad false true o = refl
+      by bad false false none = refl
+      by bad false false (some x) = refl
+
+      go : (bad : Option ℕ) → Tot.autoStatus (code h 2 13) (code h 2 15) (keptOf (rateValue h)) (tot .status) (inputFrom bad) ≡ totStatus h (tot .status) bad
+      go none = refl
+      go (some bad) = by bad (not (eqb (code h 2 13) 0) || eqb (code h 2 15) 0) (eqb (code h 2 15) 1) (rateValue h)
 
   -- SET_TOT is 0, 1 or 2
   set-cases : (n : ℕ) → n ≤ 2 → (n ≡ 0) ⊎ ((n ≡ 1) ⊎ (n ≡ 2))
-  set-cases n h = go (eqb n 0) refl (eqb n 1) refl
+  set-cases n s = go (eqb n 0) refl (eqb n 1) refl
     where
       two : (n : ℕ) → n ≤ 2 → (n ≡ 0 → ⊥) → (n ≡ 1 → ⊥) → n ≡ 2
-      two n h a b = omega arith
+      two n s a b = omega arith
 
       go : (p : Bool) → eqb n 0 ≡ p → (q : Bool) → eqb n 1 ≡ q → (n ≡ 0) ⊎ ((n ≡ 1) ⊎ (n ≡ 2))
       go true e q f = inl (borrow.Author.Tests.eqb-true n 0 e)
       go false e true f = inr (inl (borrow.Author.Tests.eqb-true n 1 f))
-      go false e false f = inr (inr (two n h (borrow.Author.Tests.eqb-false n 0 e) (borrow.Author.Tests.eqb-false n 1 f)))
+      go false e false f = inr (inr (two n s (borrow.Author.Tests.eqb-false n 0 e) (borrow.Author.Tests.eqb-false n 1 f)))
 
-  set-total : s .«set_tot» ≤ 2 → Tot.autoTotal s (st .total) (st .rate) bits status ≡ totalBy s (st .rate) (record { bits = bits; status = status }) (st .total)
-  unfolding Tot.autoTotal nextTotal totalBy
-  set-total h = go (set-cases (s .«set_tot») h)
-    where
-      go : ((s .«set_tot») ≡ 0) ⊎ (((s .«set_tot») ≡ 1) ⊎ ((s .«set_tot») ≡ 2)) → Tot.autoTotal s (st .total) (st .rate) bits status ≡ totalBy s (st .rate) (record { bits = bits; status = status }) (st .total)
-      go (inl e) = rw e
-      go (inr (inl e)) = rw e
-      go (inr (inr e)) = rw e
+  module _ (set : code h 2 13 ≤ 2) where
+    total-is : Tot.autoTotal (totAt h) (total h) (keptOf (rateValue h)) (tot .bits) (tot .status) ≡ totalBy h tot (total h)
+    unfolding Tot.autoTotal nextTotal totalBy totAt
+    total-is = ap (λ (z : ℤ). next (code h 2 13) z) adds-is ∙ go (set-cases (code h 2 13) set)
+      where
+        next : ℕ → ℤ → ℤ
+        next n z = cond (eqb n 0) (sumOf (total h) z) (cond (eqb n 1) (pos 0) (thousandthsOf (float h 2 16)))
 
-  pub tot-total : (m : ℕ) → IsMode m → s .«set_tot» ≤ 2 → tot m .total ≡ cond (eqb m auto) (totalBy s (st .rate) (record { bits = bits; status = status }) (st .total)) (st .total)
-  unfolding Tot.tickBy Tot.outOfServiceTick Tot.manTick Tot.autoTick
-  tot-total m (inl e) h = rw e
-  tot-total m (inr (inl e)) h = rw e
-  tot-total m (inr (inr e)) h = rw e (set-total h)
+        z : ℤ
+        z = adds h (addedRate h tot (totBad tot))
+
+        go : (code h 2 13 ≡ 0) ⊎ ((code h 2 13 ≡ 1) ⊎ (code h 2 13 ≡ 2)) → next (code h 2 13) z ≡ cond (eqb (code h 2 13) 1) (pos 0) (cond (eqb (code h 2 13) 2) (thousandthsOf (float h 2 16)) (sumOf (total h) z))
+        go (inl e) = rw e
+        go (inr (inl e)) = rw e
+        go (inr (inr e)) = rw e
+
+    module _ (fault : Bool) where
+      abbrev totTick : TotState
+      totTick = Tot.tickBy (totAt h) (totIn h) (modeAt h fault 2) (tot .bits) (tot .status)
+
+      -- an Auto tick in the rules' terms
+      abbrev counted : TotState
+      counted = record {
+        total = totalBy h tot (total h);
+        out = pair (bitsOf (valueGiven (totalBy h tot (total h)))) (totStatus h (tot .status) (totBad tot));
+        mode = auto;
+        rate = keptOf (ifUsable (totBad tot) (some (floatOf (tot .bits))) (rateValue h));
+        «operator_status» = operator 2 h .status;
+      }
+
+      tot-auto : modeAt h fault 2 ≡ auto → totTick ≡ counted
+      unfolding Tot.tickBy
+      tot-auto e = rw e (unfold Tot.autoTick totIn totAt givenBits in (λ i. record {
+        total = total-is i;
+        out = pair (bitsOf (valueGiven (total-is i))) (tot-status i);
+        mode = auto;
+        rate = rate-is i;
+        «operator_status» = operator 2 h .status;
+      }))
+
+      tot-man : modeAt h fault 2 ≡ man → totTick ≡ Tot.manTick (totIn h)
+      unfolding Tot.tickBy
+      tot-man e = rw e
+
+      tot-out : modeAt h fault 2 ≡ outOfService → totTick ≡ Tot.outOfServiceTick (totIn h)
+      unfolding Tot.tickBy
+      tot-out e = rw e
+
+      -- the whole tick, in its actual mode
+      pub tot-is : IsMode (modeAt h fault 2) → totTick ≡ record {
+        total = cond (eqb (modeAt h fault 2) auto) (totalBy h tot (total h)) (total h);
+        out = cond (eqb (modeAt h fault 2) outOfService) (held (given 2 h)) (totGives h fault tot);
+        mode = modeAt h fault 2;
+        rate = keptOf (cond (eqb (modeAt h fault 2) auto) (ifUsable (totBad tot) (some (floatOf (tot .bits))) (rateValue h)) (rateValue h));
+        «operator_status» = operator 2 h .status;
+      }
+      unfolding totGives totIn Tot.manTick Tot.outOfServiceTick givenBits
+      tot-is (inl e) = tot-out e ∙ sym (rw e)
+      tot-is (inr (inl e)) = tot-man e ∙ sym (rw e)
+      tot-is (inr (inr e)) = tot-auto e ∙ sym (rw e)

@@ -6,7 +6,6 @@ use lib.Dec.{ltb}
 use Rattle.wire.specs.declared.Pair.{Pair}
 use Rattle.ao.specs.declared.Order.{Order}
 use Rattle.parameters.specs.declared.Words.{Words}
-use Rattle.parameters.specs.Table.{words}
 use Rattle.device.specs.declared.Device.{Device}
 use Rattle.device.specs.declared.Reading.{Reading}
 use Rattle.device.specs.declared.Reading.the-variants.{Read, Refused}
@@ -39,6 +38,9 @@ pub data Event : Type 0 where
   telegram : ℕ → List ℕ → Event
   wrote : ℕ → ℕ → ℕ → ℕ → Event
   warmed : Event
+
+abbrev pub words : ℕ → ℕ → Words
+words a b = record { first = a; second = b }
 
 abbrev pub seen : Reading → Words
 seen (Read w) = w

@@ -13,9 +13,12 @@ use Rattle.history.specs.declared.Step.{Step}
 use Rattle.history.specs.declared.Step.the-variants.{WarmStart, Tick, Write, Telegram, Malformed}
 use Rattle.history.specs.declared.Found.{Found}
 use Rattle.history.specs.declared.Replayed.{Replayed}
-use Rattle.history.specs.Calls.{Call, reached}
+use Rattle.history.specs.Calls.{Call, Event, reached, trace}
+use Rattle.history.specs.Past.{History}
+use Rattle.history.specs.Rules.{accepted}
 use Rattle.history.specs.Claim.{Claim}
 use Rattle.history.specs.Points.{Points}
+use Rattle.history.specs.Cited.{Cited}
 
 -- four bytes, highest first, and a pair
 unfoldable pub wordAt : List ℕ → ℕ → ℕ
@@ -99,3 +102,13 @@ pub record Replays (s : List ℕ) (r : Replayed) : Type 0 where
   pub claim : (calls : List Call) → decoded s ≡ some calls → Claim calls
   -- the points on the curve
   pub points : Points
+  -- and the points of what the rules cite
+  pub cited : Cited
+
+-- the calls of the list, none where it is malformed, and their accepted events
+abbrev pub listed : Option (List Call) → List Call
+listed none = []
+listed (some cs) = cs
+
+unfoldable pub heard : List ℕ → History Event
+heard s = accepted (trace (listed (decoded s)))

@@ -4,4 +4,5 @@ pub mod Calls
 pub mod Rules
 pub mod Claim
 pub mod Points
+pub mod Cited
 pub mod Encoded

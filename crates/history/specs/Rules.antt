@@ -1,41 +1,38 @@
--- The history rules, from paper 01, "History rules", over the accepted events: call arguments and what reads of OUT in AIN and AO give after each tick, and nothing of the device's store.
--- Assumes nothing.
+-- The history rules of paper 01: what the head answers, from the accepted events alone (R2): the arguments of calls, and what reads of OUT in AIN and AO gave after each tick.
+-- Every memory and every choice is said here. What is cited of other crates, arithmetic, encodings and the table's allowed words, is listed in tests/cited and pinned in Cited.
+-- A letter and number before a colon is a sentence of the paper, as docs/TRACE.md counts them. Assumes nothing.
 use Prim.Native.Nat.{ℕ, _+_, _*_, _%_}
 use mathlib.Core.Bool.{Bool, true, false, not, _&&_, _||_, cond}
+use mathlib.Core.List.{List, [], _∷_, _++_}
 use mathlib.Core.Option.{Option, none, some}
 use lib.Dec.{eqb, ltb}
 use lib.IntN.{ℤ, pos}
-use lib.Ieee.{Float, binary32, add, sub, lt, le}
+use lib.Signed.{ltZ}
+use lib.Ieee.{Float, binary32, ofInt, add, sub, mul, div, eq, lt, le}
 use lib.Ieee.Scale.{finite}
-use lib.ListN.{length}
-use Rattle.numbers.specs.Floats.{floatOf}
+use lib.ListN.{length, drop}
+use Rattle.numbers.specs.Floats.{floatOf, bitsOf}
+use Rattle.scaling.specs.declared.Scale.{Scale}
+use Rattle.scaling.specs.Scaling.{fractionOf, atFraction}
 use Rattle.wire.specs.declared.Pair.{Pair}
 use Rattle.wire.specs.declared.Answer.{Answer}
 use Rattle.wire.specs.declared.Answer.the-variants.{Accepted, Refused}
 use Rattle.wire.specs.declared.Received.{Received}
+use Rattle.wire.specs.Refusal.{ground}
 use Rattle.wire.specs.Status.{qualityOf, subStatusOf}
-use Rattle.wire.specs.Bytes.{pairOf}
-use Rattle.blocks.specs.declared.Kept.{Kept}
-use Rattle.blocks.specs.declared.Input.{Input}
-use Rattle.blocks.specs.declared.Input.the-variants.{Usable, Bad}
-use Rattle.blocks.specs.Common.{outOfService, auto, rcas}
-use Rattle.blocks.specs.Common as Common
-use Rattle.ain.specs.declared.Settings.{Settings as AinSettings}
-use Rattle.ain.specs.Tick.{calculated, inputOf}
-use Rattle.tot.specs.declared.Settings.{Settings as TotSettings}
-use Rattle.tot.specs.Total.{sumOf, thousandthsOf}
-use Rattle.tot.specs.Tick.{tickAdds, tickRate}
-use Rattle.ao.specs.declared.Settings.{Settings as AoSettings}
-use Rattle.ao.specs.FailSafe.{following, GivenOf, failSafeCase}
-use Rattle.ao.specs.Tick.{givenBy}
+use Rattle.wire.specs.Bytes.{fiveBytes, pairOf}
+use Rattle.tot.specs.Total.{incrementOf, thousandthsOf, sumOf, valueGiven}
+use Rattle.ao.specs.declared.Order.{Order}
+use Rattle.ao.specs.declared.Order.the-variants.{Position, Safe, Rest}
 use Rattle.parameters.specs.declared.Words.{Words}
-use Rattle.parameters.specs.declared.Standing.{Standing}
-use Rattle.parameters.specs.Table.{words, defaultOf, isStatic}
-use Rattle.parameters.specs.Refused.{ground}
-use Rattle.device.specs.Factory.{Valuation, ainBy, totBy, aoBy}
-use Rattle.device.specs.Read.{bit}
+use Rattle.parameters.specs.declared.Entry.{Entry}
+use Rattle.parameters.specs.declared.Entry.the-variants.{NoBlock, NoParameter, Parameter}
+use Rattle.parameters.specs.Table.{entryOf}
+use Rattle.parameters.specs.Words.{allowsOf}
+use Rattle.device.specs.declared.Reading.{Reading}
+use Rattle.device.specs.declared.Reading.the-variants.{Read}
 use Rattle.history.specs.Past.{History, start, _▷_, count, countSince, since, latest, carried}
-use Rattle.history.specs.Calls.{Event, ticked, telegram, wrote, warmed}
+use Rattle.history.specs.Calls.{Event, ticked, telegram, wrote, warmed, words}
 
 -- ---- the kinds of events
 
@@ -45,7 +42,7 @@ isTick (telegram input bytes) = false
 isTick (wrote block number a b) = false
 isTick warmed = false
 
--- "Start is the factory call or the latest warm start."
+-- R5: the factory call starts a history, and a warm start starts it anew
 abbrev pub isStart : Event → Bool
 isStart (ticked fault ain tot ainOut aoOut order) = false
 isStart (telegram input bytes) = false
@@ -59,90 +56,237 @@ onTick f s other (telegram input bytes) = other
 onTick f s other (wrote block number a b) = other
 onTick f s other warmed = s
 
--- ---- stored parameters
+-- ---- parameters
 
+abbrev pub pair : ℕ → ℕ → Pair
+pair bits status = record { bits = bits; status = status }
+
+-- P1: what each block has, by its number, and a number that is no block's
+abbrev pub ofBlock : {A : Type 0} → A → A → A → A → A → ℕ → A
+ofBlock physical ain tot ao other block = cond (eqb block 0) physical (cond (eqb block 1) ain (cond (eqb block 2) tot (cond (eqb block 3) ao other)))
+
+-- P3, P10 to P27: the static parameters of AIN (TARGET_MODE, both scales, PV_FTIME, type and value of the fail-safe, ALARM_HYS, four limits), of TOT (TARGET_MODE, FAIL_TOT,
+-- PRESET_TOT) and of AO (TARGET_MODE, PV_SCALE, time, type and value of the fail-safe, INCREASE_CLOSE, OUT_SCALE)
+unfoldable pub statics : ℕ → List ℕ
+statics = ofBlock [] (5 ∷ 11 ∷ 12 ∷ 16 ∷ 17 ∷ 18 ∷ 19 ∷ 21 ∷ 23 ∷ 25 ∷ 27 ∷ []) (5 ∷ 15 ∷ 16 ∷ []) (5 ∷ 11 ∷ 23 ∷ 24 ∷ 25 ∷ 36 ∷ 38 ∷ []) []
+
+-- P3, P9, P20, P21: those that are kept and not counted: WRITE_LOCKING; SET_TOT and MODE_TOT. TOTAL, which is kept too, is among the outputs
+unfoldable pub kepts : ℕ → List ℕ
+kepts = ofBlock (18 ∷ []) [] (13 ∷ 14 ∷ []) [] []
+
+-- P12, P19, P28: OUT of AIN, TOTAL, OUT of AO
+unfoldable pub outputs : ℕ → List ℕ
+outputs = ofBlock [] (10 ∷ []) (10 ∷ []) (37 ∷ []) []
+
+-- P3, P10, P11: read only are ST_REV and the actual mode, in AIN also the alarms
+unfoldable pub readOnlys : ℕ → List ℕ
+readOnlys = ofBlock [] (1 ∷ 6 ∷ 7 ∷ []) (1 ∷ 6 ∷ []) (1 ∷ 6 ∷ []) []
+
+abbrev pub among : List ℕ → ℕ → Bool
+among [] number = false
+among (n ∷ ns) number = eqb number n || among ns number
+
+unfoldable pub has : ℕ → ℕ → Bool
+has block number = among (statics block ++ kepts block ++ outputs block ++ readOnlys block) number
+
+-- P4: a parameter and its default words; the lists leave out defaults of two zeros
+pub record Default : Type 0 where
+  pub number : ℕ
+  pub stands : Words
+
+abbrev brackets : ℕ → ℕ → ℕ → Default
+brackets number a b = record { number = number; stands = words a b }
+
+unfoldable pub defaults : ℕ → List Default
+defaults =
+    ofBlock
+    (brackets 18 2457 0 ∷ [])
+    (brackets 5 0x08 0 ∷ brackets 11 0 0x42c8_0000 ∷ brackets 12 0 0x42c8_0000 ∷ brackets 17 1 0 ∷ brackets 19 0x3f00_0000 0
+    ∷ brackets 21 0x7f80_0000 0 ∷ brackets 23 0x7f80_0000 0 ∷ brackets 25 0xff80_0000 0 ∷ brackets 27 0xff80_0000 0 ∷ [])
+    (brackets 5 0x08 0 ∷ [])
+    (brackets 5 0x08 0 ∷ brackets 11 0 0x42c8_0000 ∷ brackets 24 1 0 ∷ brackets 38 0 0x42c8_0000 ∷ [])
+    []
+
+abbrev pub orZeros : List Default → ℕ → Words
+orZeros [] number = words 0 0
+orZeros (d ∷ ds) number = cond (eqb number (d .number)) (d .stands) (orZeros ds number)
+
+-- the words that an event writes to a parameter
 abbrev pub wordsTo : ℕ → ℕ → Event → Option Words
 wordsTo block number (ticked fault ain tot ainOut aoOut order) = none
 wordsTo block number (telegram input bytes) = none
 wordsTo block number (wrote block′ number′ a b) = cond (eqb block′ block && eqb number′ number) (some (words a b)) none
 wordsTo block number warmed = none
 
-abbrev pub orDefault : Words → Option Words → Words
-orDefault d none = d
-orDefault d (some w) = w
+abbrev pub orElse : {A : Type 0} → A → Option A → A
+orElse other none = other
+orElse other (some a) = a
 
 abbrev pub never : Event → Bool
 never e = false
 
--- "A stored parameter (S or N, but not TOTAL) has its last accepted words or default."
-unfoldable pub stored : History Event → Valuation
-stored h block number = orDefault (defaultOf block number) (latest (wordsTo block number) never h)
+-- R10, P29: a stored parameter has the words of the last accepted write to it, before any its default; a warm start leaves it (R17)
+unfoldable pub stored : History Event → ℕ → ℕ → Words
+stored h block number = orElse (orZeros (defaults block) number) (latest (wordsTo block number) never h)
 
--- ---- acceptance
+-- P8: stored words as a whole number, as a single by its bits, and as the two ends of a scale
+abbrev pub code : History Event → ℕ → ℕ → ℕ
+code h block number = stored h block number .first
 
--- "A call is accepted if, by the calls accepted before it, it meets no ground of refusal"
-unfoldable pub standing : History Event → Standing
-standing h = record { lock = stored h 0 18 .first; ain = stored h 1 5 .first; tot = stored h 2 5 .first; ao = stored h 3 5 .first }
+abbrev pub float : History Event → ℕ → ℕ → Float
+float h block number = floatOf (stored h block number .first)
+
+abbrev pub scale : History Event → ℕ → ℕ → Scale
+scale h block number = record { low = floatOf (stored h block number .first); high = floatOf (stored h block number .second) }
+
+-- ---- modes
+
+-- P10: the codes of the modes
+abbrev pub outOfService : ℕ
+outOfService = 0x80
+
+abbrev pub man : ℕ
+man = 0x10
+
+abbrev pub auto : ℕ
+auto = 0x08
+
+abbrev pub rcas : ℕ
+rcas = 0x02
+
+-- M1, R4: a tick's actual mode: O/S under the fault flag, otherwise the target that stands before the tick
+unfoldable pub modeAt : History Event → Bool → ℕ → ℕ
+modeAt h fault block = cond (fault || eqb (code h block 5) outOfService) outOfService (code h block 5)
+
+abbrev pub isOut : History Event → Bool → ℕ → Bool
+isOut h fault block = eqb (modeAt h fault block) outOfService
+
+abbrev pub isAuto : History Event → Bool → ℕ → Bool
+isAuto h fault block = eqb (modeAt h fault block) auto
+
+-- M1, M3: the actual mode is that of the last tick since start; before one it is O/S
+unfoldable pub actual : ℕ → History Event → ℕ
+actual block = carried outOfService (λ h e old. onTick (λ fault ain tot ainOut aoOut. modeAt h fault block) outOfService old e)
+
+-- ---- refused calls
+
+-- F7: whether the table's row for a parameter allows two words
+abbrev pub allowedIn : Entry → ℕ → ℕ → Bool
+allowedIn NoBlock a b = false
+allowedIn NoParameter a b = false
+allowedIn (Parameter class allowed) a b = allowsOf allowed a b
+
+abbrev pub refused : ℕ → Answer
+refused n = Refused (ground n)
+
+-- F2 to F8: the grounds on which a write is refused, the first that is met: there is no such block (1); it has no such parameter (2); that one is read only (3); the device
+-- is locked and it isn't the lock (4); its words are not allowed (5); it is an output and the block's target isn't Man (6)
+unfoldable pub toWrite : History Event → ℕ → ℕ → ℕ → ℕ → Answer
+toWrite h block number a b =
+    cond (ltb 3 block) (refused 1)
+    (cond (not (has block number)) (refused 2)
+    (cond (among (readOnlys block) number) (refused 3)
+    (cond (eqb (code h 0 18) 0 && not (eqb block 0)) (refused 4)
+    (cond (not (allowedIn (entryOf block number) a b)) (refused 5)
+    (cond (among (outputs block) number && not (eqb (code h block 5) man)) (refused 6) Accepted)))))
+
+-- F2, F9, F10: a telegram is refused on an input other than 0 and 1 (8), and then if it has not five bytes (7)
+unfoldable pub toTelegram : ℕ → List ℕ → Answer
+toTelegram input bytes = cond (ltb 1 input) (refused 8) (cond (not (eqb (length bytes) 5)) (refused 7) Accepted)
+
+-- what a call is answered, by the events accepted before it; no ground is met by a tick or a warm start
+abbrev pub answer : History Event → Event → Answer
+answer h (ticked fault ain tot ainOut aoOut order) = Accepted
+answer h (telegram input bytes) = toTelegram input bytes
+answer h (wrote block number a b) = toWrite h block number a b
+answer h warmed = Accepted
 
 abbrev pub isAccepted : Answer → Bool
 isAccepted Accepted = true
 isAccepted (Refused r) = false
 
--- a telegram: "8, then 7", that is, an input over 1 or not five bytes
-abbrev pub isMet : History Event → Event → Bool
-isMet h (ticked fault ain tot ainOut aoOut order) = true
-isMet h (telegram input bytes) = ltb input 2 && eqb (length bytes) 5
-isMet h (wrote block number a b) = isAccepted (ground (standing h) block number a b)
-isMet h warmed = true
-
--- "a refused one counts for nothing"
+-- R3: of all events those that are accepted, each by the accepted ones before it; the others are left out
 unfoldable pub accepted : History Event → History Event
 accepted start = start
-accepted (h ▷ e) = cond (isMet (accepted h) e) (accepted h ▷ e) (accepted h)
+accepted (h ▷ e) = cond (isAccepted (answer (accepted h) e)) (accepted h ▷ e) (accepted h)
 
 -- ---- ST_REV
 
 abbrev pub isStaticWrite : ℕ → Event → Bool
 isStaticWrite block (ticked fault ain tot ainOut aoOut order) = false
 isStaticWrite block (telegram input bytes) = false
-isStaticWrite block (wrote block′ number a b) = eqb block′ block && isStatic block number
+isStaticWrite block (wrote block′ number a b) = eqb block′ block && among (statics block) number
 isStaticWrite block warmed = false
 
--- "A block's ST_REV is the number of accepted S writes to it, modulo 65,536, equal values included."
+-- R11: ST_REV counts a block's accepted static writes, whether or not they change a value, and is 0 again after 65,535
 unfoldable pub stRev : History Event → ℕ → ℕ
 stRev h block = count (isStaticWrite block) h % 65536
 
--- ---- modes
+-- ---- what the operator wrote, and old OUT
 
--- "A tick goes by the words last accepted before it, else the defaults, also for its actual modes."; "the actual mode is O/S if the fault flag is set or the
--- target is O/S, else the target"
-unfoldable pub modeAt : History Event → Bool → ℕ → ℕ
-modeAt h fault block = cond (fault || eqb (stored h block 5 .first) outOfService) outOfService (stored h block 5 .first)
+-- P31, R17: the pair that the operator last wrote to OUT or TOTAL since start, before one 0 with 0x4C; of TOTAL's only the status is used
+unfoldable pub operator : ℕ → History Event → Pair
+operator block h = written (latest (wordsTo block (cond (eqb block 3) 37 10)) isStart h)
+  where
+    written : Option Words → Pair
+    written none = pair 0 0x4c
+    written (some w) = pair (w .first) (w .second)
 
-unfoldable pub ainAt : History Event → AinSettings
-ainAt h = ainBy (stored h)
+-- R6: old OUT of AIN and of AO, as the read after the last tick gave it; before a tick 0
+unfoldable pub oldOut : ℕ → History Event → ℕ
+oldOut block = carried 0 (λ h e old. onTick (λ fault ain tot ainOut aoOut. cond (eqb block 1) (ainOut .first) (aoOut .first)) old old e)
 
-unfoldable pub totAt : History Event → TotSettings
-totAt h = totBy (stored h)
+-- ---- input status
 
-unfoldable pub aoAt : History Event → AoSettings
-aoAt h = aoBy (stored h)
+-- A5, A6: the Bad status of a tick's input, and none where it is usable. Good Cascade is taken for 0x04, a Bad byte as it came; then a value that isn't finite gives 0x10,
+-- and a calculation that isn't 0x04. The flags say whether the value, and what is calculated of it, is finite
+unfoldable pub badStatus : ℕ → Bool → Bool → Option ℕ
+badStatus status value calculated =
+    cond (eqb (qualityOf status) 3) (some 0x04)
+    (cond (eqb (qualityOf status) 0) (some status)
+    (cond (not value) (some 0x10)
+    (cond (not calculated) (some 0x04) none)))
+
+abbrev pub ifUsable : {A : Type 0} → Option ℕ → A → A → A
+ifUsable none a other = a
+ifUsable (some bad) a other = other
 
 -- ---- AIN
 
-abbrev pub whereUsable : Input → {A : Type 0} → A → A → A
-whereUsable Usable a other = a
-whereUsable (Bad bad) a other = other
+-- A1: the input's place in PV_SCALE, as a value in OUT_SCALE
+unfoldable pub scaled : History Event → Pair → Float
+scaled h ain = atFraction (scale h 1 12) (fractionOf (scale h 1 11) (floatOf (ain .bits)))
 
--- "The filter value .. is the PV of the last usable Auto tick; a tick in another mode empties it.", and so does a start
-unfoldable pub filterValue : History Event → Kept
+-- A2: a filter step from the filter value towards the scaled value, by the ticks in PV_FTIME and one; without a filter value, or with PV_FTIME 0, the scaled value itself
+abbrev pub filteredBy : Float → Float → Option Float → Float
+filteredBy time x none = x
+filteredBy time x (some pv) =
+    cond (eq time (ofInt binary32 (pos 0))) x
+    (add binary32 pv (div binary32 (sub binary32 x pv) (add binary32 (mul binary32 time (ofInt binary32 (pos 10))) (ofInt binary32 (pos 1)))))
+
+-- A4: the calculated value
+unfoldable pub calculated : History Event → Option Float → Pair → Float
+calculated h filter ain = filteredBy (float h 1 16) (scaled h ain) filter
+
+-- A5: AIN's Bad status: both the scaled and the filtered value have to be finite
+unfoldable pub ainBad : History Event → Option Float → Pair → Option ℕ
+ainBad h filter ain = badStatus (ain .status) (finite (floatOf (ain .bits))) (finite (scaled h ain) && finite (calculated h filter ain))
+
+-- A3, R7: the filter value is the calculated value of the last usable Auto tick, if no tick in another mode and no start came since
+unfoldable pub filterValue : History Event → Option Float
 filterValue =
-    carried Common.none
+    carried none
     (λ h e old. onTick
-    (λ fault ain tot ainOut aoOut. cond (eqb (modeAt h fault 1) auto)
-    (whereUsable (inputOf (ainAt h) old (ain .bits) (ain .status)) (Common.kept (calculated (ainAt h) old (ain .bits))) old)
-    Common.none)
-    Common.none old e)
+    (λ fault ain tot ainOut aoOut. cond (isAuto h fault 1) (ifUsable (ainBad h old ain) (some (calculated h old ain)) old) none)
+    none old e)
+
+-- A8, R7: the calculated value of the last usable Auto tick since start, whatever the modes of later ticks
+unfoldable pub lastUsable : History Event → Option Float
+lastUsable =
+    carried none
+    (λ h e old. onTick
+    (λ fault ain tot ainOut aoOut. cond (isAuto h fault 1) (ifUsable (ainBad h (filterValue h) ain) (some (calculated h (filterValue h) ain)) old) old)
+    none old e)
 
 -- an alarm: whether it is a low one, and its limit's parameter
 pub record Alarm : Type 0 where
@@ -161,56 +305,131 @@ lo = record { low = true; limit = 25 }
 abbrev pub loLo : Alarm
 loLo = record { low = true; limit = 27 }
 
--- "a high one rises at OUT ≥ limit and falls at OUT < limit − ALARM_HYS; a low one rises at OUT ≤ limit and falls at OUT > limit + ALARM_HYS"
+-- A10: OUT reaches a limit from below (a high alarm) or from above (a low one), and leaves it when it is back by more than the hysteresis
 abbrev pub reaches : Bool → Float → Float → Bool
 reaches low limit out = cond low (le out limit) (le limit out)
 
 abbrev pub leaves : Bool → Float → Float → Float → Bool
 leaves low limit hysteresis out = cond low (lt (add binary32 limit hysteresis) out) (lt out (sub binary32 limit hysteresis))
 
--- "a past tick raised it, by limits then in force"
+abbrev pub reachedBy : Alarm → History Event → ℕ → Bool
+reachedBy a h bits = reaches (a .low) (float h 1 (a .limit)) (floatOf bits)
+
+abbrev pub leftBy : Alarm → History Event → ℕ → Bool
+leftBy a h bits = leaves (a .low) (float h 1 (a .limit)) (float h 1 19) (floatOf bits)
+
+-- A10, R12: a tick outside O/S raises an alarm if its OUT reaches the limit that stands before the tick
 unfoldable pub raises : Alarm → History Event → Event → Bool
-raises a h =
-    onTick (λ fault ain tot ainOut aoOut. not (eqb (modeAt h fault 1) outOfService) && reaches (a .low) (floatOf (stored h 1 (a .limit) .first)) (floatOf (ainOut .first))) false false
+raises a h = onTick (λ fault ain tot ainOut aoOut. not (isOut h fault 1) && reachedBy a h (ainOut .first)) false false
 
--- "a fall, an O/S tick .. a warm start"
+-- A11, R12: it is cleared by an O/S tick, by an OUT that leaves the limit, and by a start
 unfoldable pub clears : Alarm → History Event → Event → Bool
-clears a h =
-    onTick (λ fault ain tot ainOut aoOut. eqb (modeAt h fault 1) outOfService || leaves (a .low) (floatOf (stored h 1 (a .limit) .first)) (floatOf (stored h 1 19 .first)) (floatOf (ainOut .first))) true false
+clears a h = onTick (λ fault ain tot ainOut aoOut. isOut h fault 1 || leftBy a h (ainOut .first)) true false
 
--- "An alarm stands when a past tick raised it, by limits then in force, and neither a fall, an O/S tick nor a warm start came since."
+-- R12: it stands if it was raised and has not been cleared since
 unfoldable pub stands : Alarm → History Event → Bool
 stands a h = since (raises a) (clears a) h
 
--- "sum of 1 HI_HI, 2 HI, 4 LO, 8 LO_LO"
+-- P11: 1 for HI_HI, 2 for HI, 4 for LO, 8 for LO_LO
 unfoldable pub alarmSum : History Event → ℕ
-alarmSum h = bit (stands hiHi h) + 2 * bit (stands hi h) + 4 * bit (stands lo h) + 8 * bit (stands loLo h)
+alarmSum h = cond (stands hiHi h) 1 0 + cond (stands hi h) 2 0 + cond (stands lo h) 4 0 + cond (stands loLo h) 8 0
+
+-- whether it stands with this tick's OUT
+unfoldable pub standsWith : Alarm → History Event → ℕ → Bool
+standsWith a h bits = reachedBy a h bits || (stands a h && not (leftBy a h bits))
+
+-- A12: the status of a usable Auto tick: with a Good input that of the first alarm that stands, in the order HI_HI, LO_LO, HI, LO; otherwise the input's
+unfoldable pub alarmed : History Event → ℕ → ℕ → ℕ
+alarmed h bits status =
+    cond (not (eqb (qualityOf status) 2)) status
+    (cond (standsWith hiHi h bits) 0x8e
+    (cond (standsWith loLo h bits) 0x8d
+    (cond (standsWith hi h bits) 0x8a
+    (cond (standsWith lo h bits) 0x89 status))))
+
+-- A8: an Auto tick that isn't usable, by FSAFE_TYPE: 0 gives FSAFE_VALUE, 0x48; 1 the last usable value, 0x44, or 0 with 0x4C where there is none; 2 gives the scaled value,
+-- or old OUT if that isn't finite, with the Bad status
+unfoldable pub ainFailSafe : History Event → Pair → ℕ → Pair
+ainFailSafe h ain bad =
+    cond (eqb (code h 1 17) 0) (pair (bitsOf (float h 1 18)) 0x48)
+    (cond (eqb (code h 1 17) 1) (last (lastUsable h))
+    (pair (cond (finite (scaled h ain)) (bitsOf (scaled h ain)) (oldOut 1 h)) bad))
+  where
+    last : Option Float → Pair
+    last none = pair 0 0x4c
+    last (some x) = pair (bitsOf x) 0x44
+
+-- A7, A8: in Auto the calculated value where the input is usable, else the fail-safe
+abbrev pub ainAuto : History Event → Pair → Option ℕ → Pair
+ainAuto h ain none = let pv = bitsOf (calculated h (filterValue h) ain) in pair pv (alarmed h pv (ain .status))
+ainAuto h ain (some bad) = ainFailSafe h ain bad
+
+-- A7, A9: what AIN gives in Auto, and in Man: the operator's pair
+unfoldable pub ainGives : History Event → Bool → Pair → Pair
+ainGives h fault ain = cond (isAuto h fault 1) (ainAuto h ain (ainBad h (filterValue h) ain)) (operator 1 h)
 
 -- ---- TOT
 
--- the last usable Auto rate since start
-unfoldable pub rateValue : History Event → Kept
+-- T5: TOT's Bad status; nothing is calculated of its value
+unfoldable pub totBad : Pair → Option ℕ
+totBad tot = badStatus (tot .status) (finite (floatOf (tot .bits))) true
+
+-- T7, R7: the rate of the last usable Auto tick since start
+unfoldable pub rateValue : History Event → Option Float
 rateValue =
-    carried Common.none
-    (λ h e old. onTick (λ fault ain tot ainOut aoOut. cond (eqb (modeAt h fault 2) auto) (tickRate old (tot .bits) (tot .status)) old) Common.none old e)
+    carried none (λ h e old. onTick (λ fault ain tot ainOut aoOut. cond (isAuto h fault 2) (ifUsable (totBad tot) (some (floatOf (tot .bits))) old) old) none old e)
 
--- "An Auto tick with reset or preset .. sets it; every other Auto tick adds what "TOT tick" has it add, if anything, the sum cut each time"
-unfoldable pub totalBy : TotSettings → Kept → Pair → ℤ → ℤ
-totalBy s rate tot total =
-    cond (eqb (s .«set_tot») 1) (pos 0)
-    (cond (eqb (s .«set_tot») 2) (thousandthsOf (s .«preset_tot»))
-    (sumOf total (tickAdds (s .«mode_tot») (s .«fail_tot») rate (tot .bits) (tot .status))))
+-- T3, P21: MODE_TOT 0 takes an increment of either sign, 1 those not below 0, 2 those below 0, 3 none
+unfoldable pub wantedBy : ℕ → ℤ → ℤ
+wantedBy mode z = cond (eqb mode 0 || eqb mode 1 && not (ltZ z (pos 0)) || eqb mode 2 && ltZ z (pos 0)) z (pos 0)
 
--- "or an accepted TOTAL write, sets it"; "nothing else moves it"
+-- T6, T7: the rate that an Auto tick adds by: the input's where it is usable, else by FAIL_TOT: 0 the input's if it is finite, 1 none, 2 the last usable one, if any
+abbrev pub addedRate : History Event → Pair → Option ℕ → Option Float
+addedRate h tot none = some (floatOf (tot .bits))
+addedRate h tot (some bad) =
+    cond (eqb (code h 2 15) 0) (cond (finite (floatOf (tot .bits))) (some (floatOf (tot .bits))) none)
+    (cond (eqb (code h 2 15) 1) none (rateValue h))
+
+-- T2, T7: what a rate adds, under the MODE_TOT that stands before the tick
+abbrev pub adds : History Event → Option Float → ℤ
+adds h none = pos 0
+adds h (some rate) = wantedBy (code h 2 14) (incrementOf rate)
+
+-- T6, T8, R14: the total after an Auto tick: SET_TOT 1 sets 0 and 2 PRESET_TOT; else the sum with what the tick adds
+unfoldable pub totalBy : History Event → Pair → ℤ → ℤ
+totalBy h tot total =
+    cond (eqb (code h 2 13) 1) (pos 0)
+    (cond (eqb (code h 2 13) 2) (thousandthsOf (float h 2 16))
+    (sumOf total (adds h (addedRate h tot (totBad tot)))))
+
+-- R14: an Auto tick moves the total, and so does a write of TOTAL; nothing else does
 abbrev pub totalAfter : History Event → Event → ℤ → ℤ
-totalAfter h (ticked fault ain tot ainOut aoOut order) total = cond (eqb (modeAt h fault 2) auto) (totalBy (totAt h) (rateValue h) tot total) total
+totalAfter h (ticked fault ain tot ainOut aoOut order) total = cond (isAuto h fault 2) (totalBy h tot total) total
 totalAfter h (telegram input bytes) total = total
 totalAfter h (wrote block number a b) total = cond (eqb block 2 && eqb number 10) (thousandthsOf (floatOf a)) total
 totalAfter h warmed total = total
 
--- "The total is 0 at first."
+-- R13: the total, at first 0
 unfoldable pub total : History Event → ℤ
 total = carried (pos 0) totalAfter
+
+-- T5, T7, T8: the status of an Auto tick: the input's where it is usable; else the Bad status under FAIL_TOT 0 and while SET_TOT is not 0, 0x40 under 1, and under 2 0x44,
+-- or 0x4C without a remembered rate
+abbrev pub totStatus : History Event → ℕ → Option ℕ → ℕ
+totStatus h status none = status
+totStatus h status (some bad) =
+    cond (not (eqb (code h 2 13) 0) || eqb (code h 2 15) 0) bad
+    (cond (eqb (code h 2 15) 1) 0x40 (memory (rateValue h)))
+  where
+    memory : Option Float → ℕ
+    memory none = 0x4c
+    memory (some rate) = 0x44
+
+-- T10, T9: what TOT gives in Auto and in Man: the total's value; in Man with the operator's status
+unfoldable pub totGives : History Event → Bool → Pair → Pair
+totGives h fault tot =
+    cond (isAuto h fault 2) (pair (bitsOf (valueGiven (totalBy h tot (total h)))) (totStatus h (tot .status) (totBad tot)))
+    (pair (bitsOf (valueGiven (total h))) (operator 2 h .status))
 
 -- ---- AO
 
@@ -229,7 +448,7 @@ abbrev pub holds : (Pair → Bool) → Option Pair → Bool
 holds p none = false
 holds p (some x) = p x
 
--- "A telegram is usable if quality is 2 or 3, sub-status isn't 8 and the value is finite; it is an initiate-fail-safe (IFS) if quality is 2 or 3 and sub-status 8."
+-- O1: a telegram of either Good quality is an initiate-fail-safe (IFS) if its sub-status is 8; if not, it is usable where its value is finite. O2: all others are nothing
 abbrev pub isGood : ℕ → Bool
 isGood status = eqb (qualityOf status) 2 || eqb (qualityOf status) 3
 
@@ -246,11 +465,11 @@ isUsableOn input e = holds isUsable (pairOn input e)
 unfoldable pub isIfsOn : ℕ → Event → Bool
 isIfsOn input e = holds isIfs (pairOn input e)
 
--- "no usable telegram came since start" is its negation
+-- O5: whether a usable telegram came on an input since start
 unfoldable pub came : ℕ → History Event → Bool
 came input = since (λ h e. isUsableOn input e) (λ h e. isStart e)
 
--- the value of the last usable telegram since start
+-- O6: the value of the last usable telegram since start
 abbrev pub setpointOn : ℕ → Event → Option Float
 setpointOn input e = cond (isUsableOn input e) (bitsOn (pairOn input e)) none
   where
@@ -258,37 +477,96 @@ setpointOn input e = cond (isUsableOn input e) (bitsOn (pairOn input e)) none
     bitsOn none = none
     bitsOn (some p) = some (floatOf (p .bits))
 
-abbrev pub orZero : Option Float → Float
-orZero none = floatOf 0
-orZero (some x) = x
-
 unfoldable pub setpoint : ℕ → History Event → Float
-setpoint input h = orZero (latest (setpointOn input) isStart h)
+setpoint input h = orElse (floatOf 0) (latest (setpointOn input) isStart h)
 
--- "n is the number of ticks, in any mode, since the last usable telegram on that input, the present tick not included."
+-- O4: n, the ticks since the last usable telegram on an input, whatever their mode
 unfoldable pub silence : ℕ → History Event → ℕ
 silence input h = countSince isTick (isUsableOn input) h
 
--- "the last usable-or-IFS one was IFS"
+-- O5: an IFS came since start, and no usable telegram after it
 unfoldable pub ifs : ℕ → History Event → Bool
 ifs input = since (λ h e. isIfsOn input e) (λ h e. isUsableOn input e || isStart e)
 
--- "fail-safe acts when no usable telegram came since start, or n > FSAFE_TIME, or the last usable-or-IFS one was IFS"
+-- O5: the fail-safe acts without a usable telegram since start, after more ticks than FSAFE_TIME, and after an IFS
 unfoldable pub isFailSafe : ℕ → History Event → Bool
-isFailSafe input h = not (came input h) || ltb (stored h 3 23 .first) (silence input h) || ifs input h
+isFailSafe input h = not (came input h) || ltb (code h 3 23) (silence input h) || ifs input h
 
--- "Old OUT is the value after the tick before, at first 0."
-unfoldable pub oldOut : History Event → ℕ
-oldOut = carried 0 (λ h e old. onTick (λ fault ain tot ainOut aoOut. aoOut .first) old old e)
+-- C3: what AO gives at a tick: its pair and the drive order
+pub record Given : Type 0 where
+  pub out : Pair
+  pub order : Order
 
--- "its fail-safe action is to give the value, status and order that FSAFE_TYPE's case leads to .., and in every other Auto and RCas tick it gives those that the last usable telegram leads to"
-unfoldable pub gives : ℕ → History Event → GivenOf ℕ
-gives input h =
-    givenBy (aoAt h) (oldOut h)
-    (cond (isFailSafe input h)
-    (failSafeCase (stored h 3 24 .first) (floatOf (stored h 3 25 .first)) (came input h) (setpoint input h))
-    (following (setpoint input h)))
+-- O10: a pair with the order to go to its value
+abbrev pub positioned : ℕ → ℕ → Given
+positioned bits status = record { out = pair bits status; order = Position (floatOf bits) }
 
--- "Auto uses SP, RCas RCAS_IN"
-abbrev pub inputIn : ℕ → ℕ
-inputIn mode = cond (eqb mode rcas) 1 0
+-- O9: the working value's place in PV_SCALE, from the other end if INCREASE_CLOSE is 1, as a value in OUT_SCALE
+unfoldable pub aoScaled : History Event → Float → Float
+aoScaled h w = atFraction (scale h 3 38) (cond (eqb (code h 3 36) 1) (sub binary32 (ofInt binary32 (pos 1)) f) f)
+  where
+    f : Float
+    f = fractionOf (scale h 3 11) w
+
+-- O9: OUT by a working value with its status; old OUT with 0x04 where that is not finite
+unfoldable pub working : History Event → Float → ℕ → Given
+working h w status = cond (finite (aoScaled h w)) (positioned (bitsOf (aoScaled h w)) status) (positioned (oldOut 3 h) 0x04)
+
+-- O7, O8: the fail-safe by FSAFE_TYPE: 0 works by FSAFE_VALUE, 0x48; 1 by the last usable telegram, 0x44, and without one keeps OUT, 0x4C; 2 keeps OUT, 0x00, and orders Safe
+unfoldable pub aoFailSafe : ℕ → History Event → Given
+aoFailSafe input h =
+    cond (eqb (code h 3 24) 0) (working h (float h 3 25) 0x48)
+    (cond (eqb (code h 3 24) 1) (cond (came input h) (working h (setpoint input h) 0x44) (positioned (oldOut 3 h) 0x4c))
+    (record { out = pair (oldOut 3 h) 0x00; order = Safe }))
+
+-- O6, R15, R16: by an input: the fail-safe in exactly the ticks in which it acts, else the last usable telegram, 0x80
+unfoldable pub aoBy : ℕ → History Event → Given
+aoBy input h = cond (isFailSafe input h) (aoFailSafe input h) (working h (setpoint input h) 0x80)
+
+-- O3, O11: what AO gives in Auto (by SP), in RCas (by RCAS_IN) and in Man (the operator's pair)
+unfoldable pub aoGives : History Event → Bool → Given
+aoGives h fault =
+    cond (isAuto h fault 3) (aoBy 0 h)
+    (cond (eqb (modeAt h fault 3) rcas) (aoBy 1 h)
+    (positioned (operator 3 h .bits) (operator 3 h .status)))
+
+-- C3, M2: a tick's drive order; in O/S it is Rest
+unfoldable pub order : History Event → Bool → Order
+order h fault = cond (isOut h fault 3) Rest (aoGives h fault .order)
+
+-- ---- what reads give
+
+-- M2, M3: a value that is only held has status 0x1F
+abbrev pub held : Pair → Pair
+held p = pair (p .bits) 0x1f
+
+-- P30, M2 to M4, R17: the pair last given by AIN, TOT and AO: at first 0, held through O/S ticks and at a start
+unfoldable pub given : ℕ → History Event → Pair
+given block =
+    carried (pair 0 0x1f)
+    (λ h e old. onTick
+    (λ fault ain tot ainOut aoOut. cond (isOut h fault block) (held old)
+    (cond (eqb block 1) (ainGives h fault ain) (cond (eqb block 2) (totGives h fault tot) (aoGives h fault .out))))
+    (held old) old e)
+
+-- P29, P30, P7: the words that a parameter reads with: outputs the pair last given, read-only ones a number and 0, all others what is stored
+unfoldable pub shown : History Event → ℕ → ℕ → Words
+shown h block number =
+    cond (among (outputs block) number) (words (given block h .bits) (given block h .status))
+    (cond (among (readOnlys block) number) (words (cond (eqb number 1) (stRev h block) (cond (eqb number 6) (actual block h) (alarmSum h))) 0)
+    (stored h block number))
+
+-- F2 to F4: a read is refused where there is no such block (1) or parameter (2)
+unfoldable pub reading : History Event → ℕ → ℕ → Reading
+reading h block number =
+    cond (ltb 3 block) (Reading.Refused (ground 1)) (cond (not (has block number)) (Reading.Refused (ground 2)) (Read (shown h block number)))
+
+-- ---- the bus image
+
+-- F9: a buffer under 15 bytes is refused (7)
+unfoldable pub toImage : List ℕ → Answer
+toImage buffer = cond (ltb (length buffer) 15) (refused 7) Accepted
+
+-- B1: the pairs of AIN, TOT and AO, five bytes each, in front of a buffer that has room for them; its other bytes, and those of another buffer, as they were
+unfoldable pub image : History Event → List ℕ → List ℕ
+image h buffer = cond (ltb (length buffer) 15) buffer (fiveBytes (given 1 h) ++ fiveBytes (given 2 h) ++ fiveBytes (given 3 h) ++ drop 15 buffer)

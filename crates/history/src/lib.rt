@@ -9,9 +9,13 @@
 ghost use mathlib.Core.Path.{_≡_};
 ghost use Prim.Native.Nat.{_+_, _<_, _^_};
 ghost use lib.ListN.{getD, take, drop, length};
-ghost use Rattle.history.specs.Encoded.{wordAt, pairAt, found, tickFound, writeFound, telegramFound, stepAt, isMalformed, callOf, Replays};
+ghost use Rattle.history.specs.Encoded.{wordAt, pairAt, found, tickFound, writeFound, telegramFound, stepAt, isMalformed, callOf, Replays, heard};
 ghost use Rattle.history.specs.Calls.{after};
+ghost use Rattle.history.specs.Rules as Rules;
+use ao::Order;
 use device::Device;
+use device::Reading;
+use wire::Answer;
 use wire::Pair;
 
 // A call as it stands in an encoded list; a telegram by its input and length.
@@ -245,4 +249,54 @@ pub fn replay(calls: &[u8]) -> Replayed
         malformed: false,
         device: device,
     }
+}
+
+// ---- what is answered after a list of calls; after a malformed one, what the factory device answers
+
+pub fn read_after(calls: &[u8], block: u8, parameter: u8) -> Reading
+    ensures { λ r. ⌜ r ≡ Rules.reading (heard (now (calls .entry))) block parameter ⌝ }
+{
+    let replayed = replay(calls);
+    device::read(replayed.device, block, parameter)
+}
+
+pub fn total_after(calls: &[u8]) -> i64
+    ensures { λ r. ⌜ r ≡ Rules.total (heard (now (calls .entry))) ⌝ }
+{
+    let replayed = replay(calls);
+    device::total(replayed.device)
+}
+
+// The drive order of a tick.
+pub fn order_after(calls: &[u8], fault: bool, ain: Pair, tot: Pair) -> Order
+    ensures { λ r. ⌜ r ≡ Rules.order (heard (now (calls .entry))) fault ⌝ }
+{
+    let replayed = replay(calls);
+    let ticked = device::tick(replayed.device, fault, ain, tot);
+    ticked.order
+}
+
+pub fn write_after(calls: &[u8], block: u8, parameter: u8, a: u32, b: u32) -> Answer
+    ensures { λ r. ⌜ r ≡ Rules.toWrite (heard (now (calls .entry))) block parameter a b ⌝ }
+{
+    let replayed = replay(calls);
+    let written = device::write(replayed.device, block, parameter, a, b);
+    written.answer
+}
+
+pub fn telegram_after(calls: &[u8], input: u8, bytes: &[u8]) -> Answer
+    ensures { λ r. ⌜ r ≡ Rules.toTelegram input (now (bytes .entry)) ⌝ }
+{
+    let replayed = replay(calls);
+    let taken = device::telegram(replayed.device, input, bytes);
+    taken.answer
+}
+
+// The bus image, into the front of a lent buffer.
+pub fn image_after(calls: &[u8], buf: &mut [u8]) -> Answer
+    ensures { λ r. ⌜ r ≡ Rules.toImage (now (buf .entry)) ⌝ }
+    ensures { λ _. ⌜ now (buf .exit) ≡ Rules.image (heard (now (calls .entry))) (now (buf .entry)) ⌝ }
+{
+    let replayed = replay(calls);
+    device::image(replayed.device, buf)
 }

@@ -1,0 +1,93 @@
+-- What calls on the device that `replay` hands back answer, by the claim about its list of calls. Assumes nothing.
+use Prim.Native.Nat.{ℕ, _<_}
+use mathlib.Core.Path.{_≡_, refl, sym, ap, _∙_, subst}
+use mathlib.Core.Bool.{Bool, _&&_}
+use mathlib.Core.List.{List, [], _∷_, _++_}
+use mathlib.Core.Option.{Option, none, some}
+use lib.Dec.{T}
+use lib.Ieee.Fits.{and-l, and-r, and-i}
+use lib.ListN.{length, getD}
+use Rattle.wire.specs.declared.Pair.{Pair}
+use Rattle.wire.specs.declared.Answer.{Answer}
+use Rattle.wire.specs.Image.{imageBytes}
+use Rattle.device.specs.declared.Device.{Device}
+use Rattle.device.specs.Read.{readOf}
+use Rattle.device.specs.Calls.{tickOf, writeOf, telegramOf}
+use Rattle.history.specs.declared.Replayed.{Replayed}
+use Rattle.history.specs.Past.{History, start, _▷_}
+use Rattle.history.specs.Calls.{Call, tick, write, Event, fitting, allFit, after, event, reachedFrom, traceFrom, reached, trace}
+use Rattle.history.specs.Rules.{accepted, reading, total, order, toWrite, toTelegram}
+use Rattle.history.specs.Rules as Rules
+use Rattle.history.specs.Claim.{answers, Claim}
+use Rattle.history.specs.Encoded.{callsFrom, decoded, Replays, listed, heard}
+use Rattle.history.proofs.Theorem.{demand-3}
+use Rattle.history.proofs.Run.{fitO, all-fit}
+
+-- one call more
+reached-more : (cs : List Call) (c : Call) (d : Device) → reachedFrom d (cs ++ (c ∷ [])) ≡ after (reachedFrom d cs) c
+unfolding reachedFrom
+reached-more [] c d = refl
+reached-more (x ∷ cs) c d = reached-more cs c (after d x)
+
+trace-more : (cs : List Call) (c : Call) (d : Device) (h : History Event) → traceFrom d h (cs ++ (c ∷ [])) ≡ traceFrom d h cs ▷ event (reachedFrom d cs) c
+unfolding reachedFrom traceFrom
+trace-more [] c d h = refl
+trace-more (x ∷ cs) c d h = trace-more cs c (after d x) (h ▷ event d x)
+
+fit-more : (cs : List Call) (c : Call) → T (allFit cs) → T (fitting c) → T (allFit (cs ++ (c ∷ [])))
+fit-more [] c t f = and-i (fitting c) (allFit []) f tt
+fit-more (x ∷ cs) c t f = and-i (fitting x) (allFit (cs ++ (c ∷ []))) (and-l (fitting x) (allFit cs) t) (fit-more cs c (and-r (fitting x) (allFit cs) t) f)
+
+-- the order of a tick after a list
+order-next : (cs : List Call) → T (allFit cs) → (fault : Bool) (ain tot : Pair) → tickOf (reached cs) fault ain tot .order ≡ order (accepted (trace cs)) fault
+unfolding reached trace event accepted
+order-next cs fit fault ain tot =
+    let all = demand-3 (cs ++ (tick fault ain tot ∷ [])) (fit-more cs (tick fault ain tot) fit tt) .ticks in
+    subst (λ (h : History Event). Rattle.history.specs.Past.Each Rattle.history.specs.Claim.Tick (accepted h)) (trace-more cs (tick fault ain tot) Rattle.device.specs.Factory.factoryDevice start) all .1 .drive
+
+module _ (s : List ℕ) (bytes : (i : ℕ) → getD s i 0 < 256) (r : Replayed) (R : Replays s r) where
+  -- the list that it leads to; a malformed one to that without a call
+  fits : T (allFit (listed (decoded s)))
+  unfolding decoded
+  fits = go (callsFrom (length s) s 0) (all-fit s bytes (length s) 0)
+    where
+      go : (m : Option (List Call)) → T (fitO s bytes m) → T (allFit (listed m))
+      go none t = tt
+      go (some cs) t = t
+
+  is : r .device ≡ reached (listed (decoded s))
+  is = go (decoded s) refl
+    where
+      go : (m : Option (List Call)) → decoded s ≡ m → r .device ≡ reached (listed m)
+      go none e = ap (λ (x : Replayed). x .device) (R .refused e) ∙ (unfold reached reachedFrom in refl)
+      go (some cs) e = ap (λ (x : Replayed). x .device) (R .reaches cs e)
+
+  claimed : Claim (listed (decoded s))
+  claimed = demand-3 (listed (decoded s)) fits
+
+  pub read-is : (block number : ℕ) → readOf (r .device) block number ≡ reading (heard s) block number
+  unfolding heard
+  read-is block number = ap (λ (d : Device). readOf d block number) is ∙ claimed .reads block number
+
+  pub total-is : r .device .tot .state .total ≡ total (heard s)
+  unfolding heard
+  total-is = ap (λ (d : Device). d .tot .state .total) is ∙ claimed .total
+
+  pub drive-is : (fault : Bool) (ain tot : Pair) → tickOf (r .device) fault ain tot .order ≡ order (heard s) fault
+  unfolding heard
+  drive-is fault ain tot = ap (λ (d : Device). tickOf d fault ain tot .order) is ∙ order-next (listed (decoded s)) fits fault ain tot
+
+  pub write-is : (block number a b : ℕ) → writeOf (r .device) block number a b .answer ≡ toWrite (heard s) block number a b
+  unfolding heard event
+  write-is block number a b = ap (λ (d : Device). writeOf d block number a b .answer) is ∙ claimed .next (write block number a b)
+
+  pub telegram-is : (input : ℕ) (lent : List ℕ) → telegramOf (r .device) input lent .answer ≡ toTelegram input lent
+  unfolding event
+  telegram-is input lent = ap (λ (d : Device). telegramOf d input lent .answer) is ∙ claimed .next (Call.telegram input lent)
+
+  pub image-is : (buffer : List ℕ) → imageBytes buffer (r .device .ain .state .out) (r .device .tot .state .out) (r .device .ao .state .out) ≡ Rules.image (heard s) buffer
+  unfolding heard
+  image-is buffer = ap (λ (d : Device). imageBytes buffer (d .ain .state .out) (d .tot .state .out) (d .ao .state .out)) is ∙ claimed .image buffer .1
+
+  pub image-answered : (buffer : List ℕ) → Rattle.wire.specs.Image.imageAnswer buffer ≡ Rules.toImage buffer
+  image-answered buffer = claimed .image buffer .0

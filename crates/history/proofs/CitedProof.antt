@@ -1,0 +1,85 @@
+-- The points of what the rules cite compute. Assumes nothing.
+use Prim.Native.Nat.{ℕ, _^_}
+use mathlib.Core.Path.{_≡_, refl, ap}
+use mathlib.Core.Bool.{Bool, true, false, _&&_}
+use lib.Dec.{eqb}
+use lib.IntN.{ℤ, pos, negsuc, _+ℤ_}
+use lib.Ieee.{Float, nan, inf, fin, binary32, ofInt, ofBits, toBits, add, sub, mul, div, lt, le, eq, ne, toSigned, neg}
+use Rattle.numbers.specs.Floats.{floatOf}
+use Rattle.numbers.specs.Floats as Floats
+use Rattle.numbers.specs.Whole as Whole
+use Rattle.scaling.specs.Scaling.{fractionOf, atFraction, allowedScale}
+use Rattle.wire.specs.Bytes.{pairOf}
+use Rattle.wire.specs.Image.{partOf, partPlace}
+use Rattle.tot.specs.Total.{incrementOf, thousandthsOf, sumOf, valueGiven}
+use Rattle.parameters.specs.Table as Table
+use Rattle.parameters.specs.Words.{allowsOf}
+use Rattle.history.specs.Past.{since, latest, carried}
+use Rattle.history.specs.Rules.{statics, kepts, outputs, readOnlys, has, defaults, stored, modeAt, toWrite, badStatus, scaled, calculated, ainBad, filterValue, raises, clears, stands, standsWith, alarmed, ainGives, aoScaled, given}
+use Rattle.history.specs.Cited.{Cited, cutTo, clearedOf, finiteOr}
+
+whole-cut : (n : ℕ) (z : ℤ) → Whole.limit n z ≡ cutTo n z
+unfolding Whole.limit
+whole-cut n (pos a) = refl
+whole-cut n (negsuc a) = refl
+
+bits-cleared : (z : ℤ) → Whole.highest24ℤ z ≡ clearedOf z
+unfolding Whole.highest24ℤ Whole.highestBits
+bits-cleared (pos m) = refl
+bits-cleared (negsuc m) = refl
+
+or-infinity : (negative : Bool) (x : Float) → Floats.finiteOr negative x ≡ finiteOr negative x
+or-infinity negative nan = refl
+or-infinity true (inf true) = refl
+or-infinity true (inf false) = refl
+or-infinity false (inf true) = refl
+or-infinity false (inf false) = refl
+or-infinity negative (fin s m e) = refl
+
+pub cited-points : Cited
+unfolding statics kepts outputs readOnlys has defaults stored latest toWrite scaled calculated aoScaled fractionOf atFraction allowedScale pairOf incrementOf thousandthsOf sumOf valueGiven Whole.limit Whole.highest24ℤ Whole.highestBits Table.entryOf Table.entryIn Table.rowsOf Table.physical Table.ain Table.tot Table.ao allowsOf ofInt ofBits toBits add sub mul div lt le eq ne toSigned neg lib.Ieee.size
+cited-points = record {
+  measured = λ tot w x o. unfold given ainGives modeAt filterValue carried ainBad badStatus alarmed standsWith stands since raises clears in refl;
+  alarm = λ ain tot status x o. unfold standsWith stands since raises clears modeAt in (refl, refl, refl);
+  fraction = λ low high x. refl;
+  place = λ low high f. refl;
+  increment = λ rate. whole-cut (10 ^ 9) (toSigned 63 (mul binary32 rate (ofInt binary32 (pos 100))));
+  sum = λ total z. whole-cut (10 ^ 12) (total +ℤ z);
+  thousandth = λ x. refl;
+  value = λ total. ap (λ (z : ℤ). div binary32 (ofInt binary32 z) (ofInt binary32 (pos 1000))) (bits-cleared total);
+  single = λ n x. (refl, refl);
+  status = λ n. (refl, refl, refl);
+  sent = λ n status. refl;
+  received = λ a b c d status. refl;
+  setpoint = refl;
+  closing = refl;
+  input = refl;
+  down = refl;
+  up = refl;
+  increments = (refl, refl, refl, refl, refl, refl, refl);
+  sums = (refl, refl, refl, refl, refl);
+  thousandths = (refl, refl, refl, refl);
+  values = (refl, refl, refl, refl);
+  bits = (refl, refl, refl);
+  bytes = (refl, refl);
+  statuses = (refl, refl, refl, refl);
+  numbers = (refl, refl, refl, refl, refl, refl, refl, refl, refl);
+  part = λ s block place. unfold partOf partPlace in (refl, refl);
+  locks = (λ a b. refl, refl, refl);
+  modes = ((λ a b. refl, refl, refl), (λ a b. refl, refl, refl), (λ a b. refl, refl, refl));
+  ends = ((λ a b. refl, refl, refl), (λ a b. refl, refl, refl), (λ a b. refl, refl, refl), (λ a b. refl, refl, refl));
+  codes = ((λ a b. refl, refl, refl), (λ a b. refl, refl, refl), (λ a b. refl, refl, refl), (λ a b. refl, refl, refl), (λ a b. refl, refl, refl), (λ a b. refl, refl, refl), (λ a b. refl, refl, refl));
+  ranges = ((λ a b. refl, refl, refl), (λ a b. refl, refl, refl));
+  finites = ((λ a b. refl, refl, refl), (λ a b. refl, refl, refl));
+  hysteresis = (λ a b. refl, refl, refl);
+  limits = ((above, refl, refl), (above, refl, refl), (below, refl, refl), (below, refl, refl));
+  outs = ((λ a b. refl, refl, refl), (λ a b. refl, refl, refl));
+  totals = (λ a b. refl, refl, refl);
+  table = ((refl, refl), (refl, refl), (refl, refl), (refl, refl));
+}
+  where
+    above : (a b : ℕ) → Floats.finiteOr false (floatOf a) && eqb b 0 ≡ finiteOr false (floatOf a) && eqb b 0
+    above a b = ap (λ (t : Bool). t && eqb b 0) (or-infinity false (floatOf a))
+
+    below : (a b : ℕ) → Floats.finiteOr true (floatOf a) && eqb b 0 ≡ finiteOr true (floatOf a) && eqb b 0
+    below a b = ap (λ (t : Bool). t && eqb b 0) (or-infinity true (floatOf a))

@@ -1,0 +1,385 @@
+-- The device that the rules give, field by field, and that an accepted write leads from one to the next. Assumes nothing.
+use Prim.Native.Nat.{ℕ, _+_, _%_, _≤_, min}
+use native.Mathlib.Omega.{arith}
+use mathlib.Core.Path.{_≡_, refl, sym, ap, _∙_}
+use mathlib.Core.Bool.{Bool, true, false, not, _&&_, _||_, cond, true≢false}
+use mathlib.Core.Option.{Option, none, some}
+use lib.Dec.{T, eqb}
+use lib.IntN.{ℤ}
+use lib.Ieee.{Float}
+use Rattle.numbers.specs.Floats.{floatOf}
+use Rattle.scaling.specs.declared.Scale.{Scale}
+use Rattle.wire.specs.declared.Pair.{Pair}
+use Rattle.blocks.specs.declared.Kept.{Kept}
+use Rattle.blocks.specs.Common as Common
+use Rattle.ain.specs.declared.Settings.{Settings as AinSettings}
+use Rattle.ain.specs.declared.State.{State as AinState}
+use Rattle.ain.specs.declared.Alarms.{Alarms}
+use Rattle.ain.specs.State.{operatedState}
+use Rattle.tot.specs.declared.Settings.{Settings as TotSettings}
+use Rattle.tot.specs.declared.State.{State as TotState}
+use Rattle.tot.specs.State.{writtenState}
+use Rattle.tot.specs.Total.{thousandthsOf}
+use Rattle.ao.specs.declared.Settings.{Settings as AoSettings}
+use Rattle.ao.specs.declared.State.{State as AoState}
+use Rattle.ao.specs.declared.Input.{Input as Setpoint}
+use Rattle.ao.specs.State.{operatedBy, freshState, started, noTelegrams}
+use Rattle.ao.specs.FailSafe.{emptied}
+use Rattle.parameters.specs.declared.Words.{Words}
+use Rattle.parameters.specs.Table.{isStatic}
+use Rattle.parameters.specs.Table as Table
+use Rattle.device.specs.declared.Device.{Device}
+use Rattle.device.specs.declared.AinBlock.{AinBlock}
+use Rattle.device.specs.declared.TotBlock.{TotBlock}
+use Rattle.device.specs.declared.AoBlock.{AoBlock}
+use Rattle.device.specs.Stored.{scaleOf, pairOf as pairWritten, ainSettings, totSettings, aoSettings, revAfter, ainWritten, totWritten, aoWritten, storedIn}
+use Rattle.device.specs.Factory.{ainBy, totBy, aoBy, factoryDevice}
+use Rattle.history.specs.Past.{History, start, _▷_, count, countSince, since, latest, told, carried}
+use Rattle.history.specs.Calls.{Event, wrote, words}
+use Rattle.history.specs.Rules.{pair, statics, outputs, among, defaults, orZeros, orElse, stored, wordsTo, never, code, float, scale, isStaticWrite, stRev, actual, operator, filterValue, lastUsable, Alarm, hiHi, hi, lo, loLo, stands, rateValue, total, given, came, setpoint, silence, ifs, isTick, isStart, pairOn, holds, isUsable, isIfs, isUsableOn, isIfsOn, raises, clears}
+use Rattle.history.proofs.Truth.{and-true}
+use Rattle.history.proofs.Lists.{static-same}
+
+-- ---- the device
+
+-- a value that may be missing, as a block keeps it
+abbrev pub keptOf : Option Float → Kept
+keptOf none = Common.none
+keptOf (some x) = Common.kept x
+
+-- a setpoint input by the rules; the count stops at 65,536
+unfoldable pub inputAt : ℕ → History Event → Setpoint
+inputAt input h = record { some = came input h; value = setpoint input h; silence = cond (came input h) (min (silence input h) 65536) 0; ifs = ifs input h }
+
+unfoldable pub alarmsAt : History Event → Alarms
+alarmsAt h = record { «hi_hi» = stands hiHi h; hi = stands hi h; lo = stands lo h; «lo_lo» = stands loLo h }
+
+-- the settings by their parameters' words
+abbrev codeIn : Words → ℕ
+codeIn w = w .first
+
+abbrev floatIn : Words → Float
+floatIn w = floatOf (w .first)
+
+abbrev scaleIn : Words → Scale
+scaleIn w = scaleOf (w .first) (w .second)
+
+abbrev ainOf : (ℕ → Words) → AinSettings
+ainOf w = record {
+  target = codeIn (w 5);
+  «pv_scale» = scaleIn (w 11);
+  «out_scale» = scaleIn (w 12);
+  «pv_ftime» = floatIn (w 16);
+  «fsafe_type» = codeIn (w 17);
+  «fsafe_value» = floatIn (w 18);
+  «alarm_hys» = floatIn (w 19);
+  «hi_hi_lim» = floatIn (w 21);
+  «hi_lim» = floatIn (w 23);
+  «lo_lim» = floatIn (w 25);
+  «lo_lo_lim» = floatIn (w 27);
+}
+
+abbrev totOf : (ℕ → Words) → TotSettings
+totOf w = record { target = codeIn (w 5); «set_tot» = codeIn (w 13); «mode_tot» = codeIn (w 14); «fail_tot» = codeIn (w 15); «preset_tot» = floatIn (w 16) }
+
+abbrev aoOf : (ℕ → Words) → AoSettings
+aoOf w = record {
+  target = codeIn (w 5);
+  «pv_scale» = scaleIn (w 11);
+  «out_scale» = scaleIn (w 38);
+  «fsafe_time» = codeIn (w 23);
+  «fsafe_type» = codeIn (w 24);
+  «fsafe_value» = floatIn (w 25);
+  «increase_close» = codeIn (w 36);
+}
+
+unfoldable pub ainAt : History Event → AinSettings
+ainAt h = ainOf (stored h 1)
+
+unfoldable pub totAt : History Event → TotSettings
+totAt h = totOf (stored h 2)
+
+unfoldable pub aoAt : History Event → AoSettings
+aoAt h = aoOf (stored h 3)
+
+unfoldable pub ainIn : History Event → AinState
+ainIn h = record { out = given 1 h; mode = actual 1 h; filter = keptOf (filterValue h); last = keptOf (lastUsable h); operator = operator 1 h; alarms = alarmsAt h }
+
+unfoldable pub totIn : History Event → TotState
+totIn h = record { total = total h; out = given 2 h; mode = actual 2 h; rate = keptOf (rateValue h); «operator_status» = operator 2 h .status }
+
+unfoldable pub aoIn : History Event → AoState
+aoIn h = record { out = given 3 h; mode = actual 3 h; operator = operator 3 h; sp = inputAt 0 h; «rcas_in» = inputAt 1 h }
+
+abbrev pub ainBlock : History Event → AinBlock
+ainBlock h = record { settings = ainAt h; state = ainIn h; «st_rev» = stRev h 1 }
+
+abbrev pub totBlock : History Event → TotBlock
+totBlock h = record { settings = totAt h; state = totIn h; «st_rev» = stRev h 2 }
+
+abbrev pub aoBlock : History Event → AoBlock
+aoBlock h = record { settings = aoAt h; state = aoIn h; «st_rev» = stRev h 3 }
+
+unfoldable pub deviceOf : History Event → Device
+deviceOf h = record { «write_locking» = code h 0 18; ain = ainBlock h; tot = totBlock h; ao = aoBlock h }
+
+-- ---- the factory call
+
+pub ruled-start : factoryDevice ≡ deviceOf start
+unfolding deviceOf factoryDevice ainBy totBy aoBy Table.defaultOf Table.defaultIn Table.rowsOf Table.physical Table.ain Table.tot Table.ao defaults stored latest ainAt ainIn totAt totIn aoAt aoIn stRev count given actual operator filterValue lastUsable rateValue carried alarmsAt stands since Rattle.history.specs.Rules.total inputAt came setpoint silence countSince ifs freshState started noTelegrams emptied
+ruled-start = refl
+
+-- ---- what leaves a rule's value as it was
+
+pub since-still : {E : Type 0} (r c : History E → E → Bool) (h : History E) (e : E) → r h e ≡ false → c h e ≡ false → since r c (h ▷ e) ≡ since r c h
+unfolding since
+since-still r c h e p q = ap (λ (x : Bool). x || (since r c h && not (c h e))) p ∙ ap (λ (x : Bool). since r c h && not x) q ∙ and-true (since r c h)
+
+-- an event that is no tick and no start leaves the alarms
+pub alarms-still : (h : History Event) (e : Event) → ((a : Alarm) → raises a h e ≡ false) → ((a : Alarm) → clears a h e ≡ false) → alarmsAt (h ▷ e) ≡ alarmsAt h
+unfolding alarmsAt stands
+alarms-still h e r c = λ i. record { «hi_hi» = same hiHi i; hi = same hi i; lo = same lo i; «lo_lo» = same loLo i }
+  where
+    same : (a : Alarm) → stands a (h ▷ e) ≡ stands a h
+    same a = since-still (raises a) (clears a) h e (r a) (c a)
+
+silent-same : (input : ℕ) (h : History Event) (e : Event) → isUsableOn input e ≡ false → isTick e ≡ false → silence input (h ▷ e) ≡ silence input h
+unfolding silence countSince
+silent-same input h e u t = rw (u, t)
+
+-- without a telegram on an input none is usable there, and none is IFS
+module _ (input : ℕ) (e : Event) (n : pairOn input e ≡ none) where
+  pub not-usable : isUsableOn input e ≡ false
+  unfolding isUsableOn
+  not-usable = ap (holds isUsable) n
+
+  pub not-ifs : isIfsOn input e ≡ false
+  unfolding isIfsOn
+  not-ifs = ap (holds isIfs) n
+
+  module _ (h : History Event) (s : isStart e ≡ false) where
+    pub came-same : came input (h ▷ e) ≡ came input h
+    unfolding came
+    came-same = since-still (λ h e. isUsableOn input e) (λ h e. isStart e) h e not-usable s
+
+    pub ifs-same : ifs input (h ▷ e) ≡ ifs input h
+    unfolding ifs
+    ifs-same = since-still (λ h e. isIfsOn input e) (λ h e. isUsableOn input e || isStart e) h e not-ifs (ap (λ (x : Bool). x || isStart e) not-usable ∙ s)
+
+    pub setpoint-same : setpoint input (h ▷ e) ≡ setpoint input h
+    unfolding setpoint latest
+    setpoint-same = rw (s, not-usable)
+
+    -- an event that is no tick either leaves the input
+    pub input-still : isTick e ≡ false → inputAt input (h ▷ e) ≡ inputAt input h
+    unfolding inputAt
+    input-still t = λ i. record {
+      some = came-same i;
+      value = setpoint-same i;
+      silence = cond (came-same i) (min (silence-same i) 65536) 0;
+      ifs = ifs-same i;
+    }
+      where
+        silence-same : silence input (h ▷ e) ≡ silence input h
+        silence-same = silent-same input h e not-usable t
+
+-- ---- an accepted write
+
+-- a function goes into both cases
+pub cond-ap : {X A : Type 0} (g : X → A) (p : Bool) (x y : X) → g (cond p x y) ≡ cond p (g x) (g y)
+cond-ap g true x y = refl
+cond-ap g false x y = refl
+
+module _ (h : History Event) (block number a b : ℕ) where
+  abbrev then : History Event
+  then = h ▷ wrote block number a b
+
+  stored-wrote : (B N : ℕ) → stored then B N ≡ cond (eqb block B && eqb number N) (words a b) (stored h B N)
+  unfolding stored latest
+  stored-wrote B N = go (eqb block B && eqb number N)
+    where
+      go : (p : Bool) → orElse (orZeros (defaults B) N) (told (cond p (some (words a b)) none) (latest (wordsTo B N) never h)) ≡ cond p (words a b) (orElse (orZeros (defaults B) N) (latest (wordsTo B N) never h))
+      go true = refl
+      go false = refl
+
+  -- a parameter of the block written, and of another block
+  written : {A : Type 0} (g : Words → A) (B N : ℕ) → eqb block B ≡ true → cond (eqb number N) (g (words a b)) (g (stored h B N)) ≡ g (stored then B N)
+  written g B N e = sym (ap g (stored-wrote B N ∙ ap (λ (p : Bool). cond (p && eqb number N) (words a b) (stored h B N)) e) ∙ cond-ap g (eqb number N) (words a b) (stored h B N))
+
+  untouched : (B N : ℕ) → eqb block B ≡ false → stored h B N ≡ stored then B N
+  untouched B N e = sym (stored-wrote B N ∙ ap (λ (p : Bool). cond (p && eqb number N) (words a b) (stored h B N)) e)
+
+  -- block 0 has WRITE_LOCKING alone, so an accepted write to it is one of 18
+  lock-wrote : (eqb block 0 ≡ true → eqb number 18 ≡ true) → cond (eqb block 0) a (code h 0 18) ≡ code then 0 18
+  lock-wrote only = go (eqb block 0) refl
+    where
+      go : (p : Bool) → eqb block 0 ≡ p → cond p a (code h 0 18) ≡ code then 0 18
+      go true q = sym (ap (λ (x : Bool). cond x a (code h 0 18)) (only q)) ∙ written codeIn 0 18 q
+      go false q = ap codeIn (untouched 0 18 q)
+
+  -- ST_REV, for any block
+  rev-step : (c : Bool) (n : ℕ) → revAfter c (n % 65536) ≡ cond c (n + 1) n % 65536
+  unfolding revAfter
+  rev-step true n = omega arith
+  rev-step false n = refl
+
+  rev-wrote : (B : ℕ) (p : Bool) → eqb block B ≡ p → cond p (revAfter (isStatic B number) (stRev h B)) (stRev h B) ≡ stRev then B
+  unfolding stRev count
+  rev-wrote B true e = ap (λ (c : Bool). revAfter c (count (isStaticWrite B) h % 65536)) (static-same B number) ∙ rev-step (among (statics B) number) (count (isStaticWrite B) h)
+      ∙ ap (λ (p : Bool). cond (p && among (statics B) number) (count (isStaticWrite B) h + 1) (count (isStaticWrite B) h) % 65536) (sym e)
+  rev-wrote B false e = ap (λ (p : Bool). cond (p && among (statics B) number) (count (isStaticWrite B) h + 1) (count (isStaticWrite B) h) % 65536) (sym e)
+
+  -- the operator's pair
+  abbrev output : ℕ → ℕ
+  output B = cond (eqb B 3) 37 10
+
+  operator-wrote : (B : ℕ) → operator B then ≡ cond (eqb block B && eqb number (output B)) (pair a b) (operator B h)
+  unfolding operator latest
+  operator-wrote B = go (eqb block B && eqb number (output B))
+    where
+      put : Option Words → Pair
+      put none = pair 0 0x4c
+      put (some w) = pair (w .first) (w .second)
+
+      go : (p : Bool) → put (told (cond p (some (words a b)) none) (latest (wordsTo B (output B)) isStart h)) ≡ cond p (pair a b) (put (latest (wordsTo B (output B)) isStart h))
+      go true = refl
+      go false = refl
+
+  -- of the block written, by whether its output was; and of another block
+  operated : (B : ℕ) (q : Bool) → eqb block B ≡ true → eqb number (output B) ≡ q → cond q (pair a b) (operator B h) ≡ operator B then
+  operated B q e f = sym (operator-wrote B ∙ (λ i. cond (e i && f i) (pair a b) (operator B h)))
+
+  unoperated : (B : ℕ) → eqb block B ≡ false → operator B h ≡ operator B then
+  unoperated B e = sym (operator-wrote B ∙ (λ i. cond (e i && eqb number (output B)) (pair a b) (operator B h)))
+
+  alarms-same : alarmsAt h ≡ alarmsAt then
+  alarms-same = sym (alarms-still h (wrote block number a b) (λ a. unfold raises in refl) (λ a. unfold clears in refl))
+
+  input-same : (i : ℕ) → inputAt i h ≡ inputAt i then
+  input-same i = sym (input-still i (wrote block number a b) refl h refl refl)
+
+  -- ---- AIN
+
+  ain-written : eqb block 1 ≡ true → ainSettings (ainAt h) number a b ≡ ainAt then
+  unfolding ainSettings ainAt
+  ain-written e = λ i. record {
+    target = written codeIn 1 5 e i;
+    «pv_scale» = written scaleIn 1 11 e i;
+    «out_scale» = written scaleIn 1 12 e i;
+    «pv_ftime» = written floatIn 1 16 e i;
+    «fsafe_type» = written codeIn 1 17 e i;
+    «fsafe_value» = written floatIn 1 18 e i;
+    «alarm_hys» = written floatIn 1 19 e i;
+    «hi_hi_lim» = written floatIn 1 21 e i;
+    «hi_lim» = written floatIn 1 23 e i;
+    «lo_lim» = written floatIn 1 25 e i;
+    «lo_lo_lim» = written floatIn 1 27 e i;
+  }
+
+  ain-untouched : eqb block 1 ≡ false → ainAt h ≡ ainAt then
+  unfolding ainAt
+  ain-untouched e = λ i. ainOf (λ N. untouched 1 N e i)
+
+  -- the state with another operator's pair
+  ain-operator : (p : Pair) → p ≡ operator 1 then → operatedState (ainIn h) p ≡ ainIn then
+  unfolding ainIn given actual filterValue lastUsable carried
+  ain-operator p e = λ i. record { out = given 1 h; mode = actual 1 h; filter = keptOf (filterValue h); last = keptOf (lastUsable h); operator = e i; alarms = alarms-same i }
+
+  ain-still : operator 1 h ≡ operator 1 then → ainIn h ≡ ainIn then
+  unfolding ainIn
+  ain-still e = ain-operator (operator 1 h) e
+
+  tot-written : eqb block 2 ≡ true → totSettings (totAt h) number a ≡ totAt then
+  unfolding totSettings totAt
+  tot-written e = λ i. record {
+    target = written codeIn 2 5 e i;
+    «set_tot» = written codeIn 2 13 e i;
+    «mode_tot» = written codeIn 2 14 e i;
+    «fail_tot» = written codeIn 2 15 e i;
+    «preset_tot» = written floatIn 2 16 e i;
+  }
+
+  tot-untouched : eqb block 2 ≡ false → totAt h ≡ totAt then
+  unfolding totAt
+  tot-untouched e = λ i. totOf (λ N. untouched 2 N e i)
+
+  -- TOTAL sets the total and the operator's status
+  total-wrote : (p q : Bool) → eqb block 2 ≡ p → eqb number 10 ≡ q → cond (p && q) (thousandthsOf (floatOf a)) (total h) ≡ total then
+  unfolding total carried
+  total-wrote p q e f = λ i. cond (sym e i && sym f i) (thousandthsOf (floatOf a)) (total h)
+
+  tot-operator : (z : ℤ) (status : ℕ) → z ≡ total then → status ≡ operator 2 then .status → record { total = z; out = given 2 h; mode = actual 2 h; rate = keptOf (rateValue h); «operator_status» = status } ≡ totIn then
+  unfolding totIn given actual rateValue carried
+  tot-operator z status e f = λ i. record { total = e i; out = given 2 h; mode = actual 2 h; rate = keptOf (rateValue h); «operator_status» = f i }
+
+  tot-still : (p q : Bool) → eqb block 2 ≡ p → eqb number 10 ≡ q → operator 2 h ≡ operator 2 then → record { total = cond (p && q) (thousandthsOf (floatOf a)) (total h); out = given 2 h; mode = actual 2 h; rate = keptOf (rateValue h); «operator_status» = operator 2 h .status } ≡ totIn then
+  tot-still p q e f o = tot-operator (cond (p && q) (thousandthsOf (floatOf a)) (total h)) (operator 2 h .status) (total-wrote p q e f) (λ i. o i .status)
+
+  ao-written : eqb block 3 ≡ true → aoSettings (aoAt h) number a b ≡ aoAt then
+  unfolding aoSettings aoAt
+  ao-written e = λ i. record {
+    target = written codeIn 3 5 e i;
+    «pv_scale» = written scaleIn 3 11 e i;
+    «out_scale» = written scaleIn 3 38 e i;
+    «fsafe_time» = written codeIn 3 23 e i;
+    «fsafe_type» = written codeIn 3 24 e i;
+    «fsafe_value» = written floatIn 3 25 e i;
+    «increase_close» = written codeIn 3 36 e i;
+  }
+
+  ao-untouched : eqb block 3 ≡ false → aoAt h ≡ aoAt then
+  unfolding aoAt
+  ao-untouched e = λ i. aoOf (λ N. untouched 3 N e i)
+
+  ao-operator : (p : Pair) → p ≡ operator 3 then → operatedBy (aoIn h) p ≡ aoIn then
+  unfolding aoIn operatedBy given actual carried
+  ao-operator p e = λ i. record { out = given 3 h; mode = actual 3 h; operator = e i; sp = input-same 0 i; «rcas_in» = input-same 1 i }
+
+  ao-still : operator 3 h ≡ operator 3 then → aoIn h ≡ aoIn then
+  unfolding aoIn operatedBy
+  ao-still e = ao-operator (operator 3 h) e
+
+  -- ---- the whole device, where block 0's write is one of the lock, and a written status a byte
+  module _ (only : eqb block 0 ≡ true → eqb number 18 ≡ true) (small : (B : ℕ) → eqb block B ≡ true → T (among (outputs B) number) → b ≤ 255) where
+    byte : b ≤ 255 → b % 256 ≡ b
+    byte s = omega arith
+
+    -- the pair written, where an output was
+    pair-written : (B : ℕ) → eqb block B ≡ true → eqb number (output B) ≡ true → T (among (outputs B) number) → pairWritten a b ≡ operator B then
+    pair-written B e f t = (λ i. pair a (byte (small B e t) i)) ∙ operated B true e f
+
+    is : (q : Bool) → q ≡ true → T (q || false)
+    is true e = tt
+    is false e = absurd (true≢false (sym e))
+
+    ain-state : eqb block 1 ≡ true → (q : Bool) → eqb number 10 ≡ q → cond q (operatedState (ainIn h) (pairWritten a b)) (ainIn h) ≡ ainIn then
+    ain-state e true f = ain-operator (pairWritten a b) (pair-written 1 e f (unfold outputs in is (eqb number 10) f))
+    ain-state e false f = ain-still (operated 1 false e f)
+
+    ain-then : (p : Bool) → eqb block 1 ≡ p → cond p (ainWritten (ainBlock h) number a b) (ainBlock h) ≡ ainBlock then
+    unfolding ainWritten
+    ain-then true e = λ i. record { settings = ain-written e i; state = ain-state e (eqb number 10) refl i; «st_rev» = rev-wrote 1 true e i }
+    ain-then false e = λ i. record { settings = ain-untouched e i; state = ain-still (unoperated 1 e) i; «st_rev» = rev-wrote 1 false e i }
+
+    tot-state : eqb block 2 ≡ true → (q : Bool) → eqb number 10 ≡ q → cond q (writtenState (totIn h) a (b % 256)) (totIn h) ≡ totIn then
+    unfolding totIn
+    tot-state e true f = tot-operator (thousandthsOf (floatOf a)) (b % 256) (total-wrote true true e f) (λ i. pair-written 2 e f (unfold outputs in is (eqb number 10) f) i .status)
+    tot-state e false f = tot-still true false e f (operated 2 false e f)
+
+    tot-then : (p : Bool) → eqb block 2 ≡ p → cond p (totWritten (totBlock h) number a b) (totBlock h) ≡ totBlock then
+    unfolding totWritten totIn
+    tot-then true e = λ i. record { settings = tot-written e i; state = tot-state e (eqb number 10) refl i; «st_rev» = rev-wrote 2 true e i }
+    tot-then false e = λ i. record { settings = tot-untouched e i; state = tot-still false (eqb number 10) e refl (unoperated 2 e) i; «st_rev» = rev-wrote 2 false e i }
+
+    ao-state : eqb block 3 ≡ true → (q : Bool) → eqb number 37 ≡ q → cond q (operatedBy (aoIn h) (pairWritten a b)) (aoIn h) ≡ aoIn then
+    ao-state e true f = ao-operator (pairWritten a b) (pair-written 3 e f (unfold outputs in is (eqb number 37) f))
+    ao-state e false f = ao-still (operated 3 false e f)
+
+    ao-then : (p : Bool) → eqb block 3 ≡ p → cond p (aoWritten (aoBlock h) number a b) (aoBlock h) ≡ aoBlock then
+    unfolding aoWritten
+    ao-then true e = λ i. record { settings = ao-written e i; state = ao-state e (eqb number 37) refl i; «st_rev» = rev-wrote 3 true e i }
+    ao-then false e = λ i. record { settings = ao-untouched e i; state = ao-still (unoperated 3 e) i; «st_rev» = rev-wrote 3 false e i }
+
+    pub ruled-wrote : storedIn (deviceOf h) block number a b ≡ deviceOf then
+    unfolding storedIn deviceOf
+    ruled-wrote = λ i. record { «write_locking» = lock-wrote only i; ain = ain-then (eqb block 1) refl i; tot = tot-then (eqb block 2) refl i; ao = ao-then (eqb block 3) refl i }
