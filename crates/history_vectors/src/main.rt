@@ -1,0 +1,655 @@
+// Lists of calls as bytes, replayed from the factory device, and what reads give after them, worked by hand from paper 01.
+// A line each: the list's name and `passed`, or what differs from the paper. What it would catch: a call read at the
+// wrong place or with its words in another order, a refused call that counts, a malformed list of which a part counts.
+use ao::Order;
+use device::Reading;
+use history::Replayed;
+use libc::STDOUT_FILENO;
+use wire::Answer;
+use wire::Pair;
+
+// ---- what a list writes
+
+fn text(s: &[u8]) {
+    io::write_all(STDOUT_FILENO, s);
+}
+
+fn words(a: u32, b: u32) {
+    io::print_hex(STDOUT_FILENO, a as u64, 8);
+    text(b" ");
+    io::print_hex(STDOUT_FILENO, b as u64, 8);
+}
+
+// ---- a list of calls, put into a buffer call by call
+
+fn put_number(list: &mut [u8], at: usize, byte: u8) -> usize {
+    let one = [byte];
+    text::put_bytes(list, at, &one)
+}
+
+// A word, highest byte first.
+fn put_word(list: &mut [u8], at: usize, word: u32) -> usize {
+    let mut five = [0u8; 5];
+    wire::put(
+        &mut five,
+        0,
+        Pair {
+            bits: word,
+            status: 0,
+        },
+    );
+    text::put_bytes(list, at, &five[0..4])
+}
+
+fn put_pair(list: &mut [u8], at: usize, bits: u32, status: u8) -> usize {
+    let next = put_word(list, at, bits);
+    put_number(list, next, status)
+}
+
+fn warm_start(list: &mut [u8], at: usize) -> usize {
+    put_number(list, at, 0)
+}
+
+// A tick with a fault byte and both pairs.
+fn tick_with(
+    list: &mut [u8],
+    at: usize,
+    fault: u8,
+    ain: u32,
+    ain_status: u8,
+    tot: u32,
+    tot_status: u8,
+) -> usize {
+    let a = put_number(list, at, 1);
+    let b = put_number(list, a, fault);
+    let c = put_pair(list, b, ain, ain_status);
+    put_pair(list, c, tot, tot_status)
+}
+
+// Ticks without a fault: AIN's value Good and TOT's rate Good, the other 0 and Good.
+fn tick(list: &mut [u8], at: usize, ain: u32) -> usize {
+    tick_with(list, at, 0, ain, 0x80, 0, 0x80)
+}
+
+fn tick_rate(list: &mut [u8], at: usize, rate: u32) -> usize {
+    tick_with(list, at, 0, 0, 0x80, rate, 0x80)
+}
+
+fn write(list: &mut [u8], at: usize, block: u8, parameter: u8, a: u32, b: u32) -> usize {
+    let c = put_number(list, at, 2);
+    let d = put_number(list, c, block);
+    let e = put_number(list, d, parameter);
+    let f = put_word(list, e, a);
+    put_word(list, f, b)
+}
+
+// A telegram whose length is said in two words, and some bytes.
+fn telegram(list: &mut [u8], at: usize, input: u8, high: u32, low: u32, bytes: &[u8]) -> usize {
+    let a = put_number(list, at, 3);
+    let b = put_number(list, a, input);
+    let c = put_word(list, b, high);
+    let d = put_word(list, c, low);
+    text::put_bytes(list, d, bytes)
+}
+
+// ---- what is asked after a list
+
+// The device after the first bytes of a buffer. The list's line begins; whether it was told malformed is looked at.
+fn replayed(name: &[u8], list: &[u8], end: usize) -> Replayed {
+    text(name);
+    text(b":");
+    if end > list.len() {
+        text(b" the buffer is too short;");
+        return history::replay(list);
+    }
+    history::replay(&list[0..end])
+}
+
+fn formed(r: Replayed) -> bool {
+    let malformed = r.malformed;
+    if malformed {
+        text(b" told malformed;");
+        return false;
+    }
+    true
+}
+
+fn refused(r: Replayed) -> bool {
+    let malformed = r.malformed;
+    if malformed {
+        return true;
+    }
+    text(b" not told malformed;");
+    false
+}
+
+// A read that the paper answers with two words.
+fn reads(good: bool, r: Replayed, block: u8, parameter: u8, a: u32, b: u32) -> bool {
+    let reading = device::read(r.device, block, parameter);
+    match reading {
+        Reading::Read(w) => {
+            let first = w.first;
+            let second = w.second;
+            let same = (first == a) & (second == b);
+            if same {
+                return good;
+            }
+            differs(block, parameter);
+            words(first, second);
+            text(b", not ");
+            words(a, b);
+            text(b";");
+            false
+        }
+        Reading::Refused(_) => {
+            differs(block, parameter);
+            text(b"no words;");
+            false
+        }
+    }
+}
+
+fn differs(block: u8, parameter: u8) {
+    text(b" ");
+    io::print_decimal(STDOUT_FILENO, block as u64);
+    text(b", ");
+    io::print_decimal(STDOUT_FILENO, parameter as u64);
+    text(b" reads ");
+}
+
+// Outputs and actual modes: "Fresh and after a warm start: actual O/S, status 0x1F. Fresh output values are 0."
+fn reads_started(good: bool, r: Replayed) -> bool {
+    let g = reads(good, r, 1, 6, 0x80, 0);
+    let g = reads(g, r, 1, 10, 0, 0x1f);
+    let g = reads(g, r, 2, 6, 0x80, 0);
+    let g = reads(g, r, 2, 10, 0, 0x1f);
+    let g = reads(g, r, 3, 6, 0x80, 0);
+    reads(g, r, 3, 37, 0, 0x1f)
+}
+
+// All that the factory device reads: the defaults in brackets, ST_REVs and alarms 0.
+fn reads_factory(good: bool, r: Replayed) -> bool {
+    let g = reads_started(good, r);
+    let g = reads(g, r, 0, 18, 2457, 0);
+    let g = reads_ain(g, r);
+    let g = reads(g, r, 2, 1, 0, 0);
+    let g = reads(g, r, 2, 5, 0x08, 0);
+    let g = reads(g, r, 2, 13, 0, 0);
+    let g = reads(g, r, 2, 14, 0, 0);
+    let g = reads(g, r, 2, 15, 0, 0);
+    let g = reads(g, r, 2, 16, 0, 0);
+    let g = reads(g, r, 3, 1, 0, 0);
+    let g = reads(g, r, 3, 5, 0x08, 0);
+    let g = reads(g, r, 3, 11, 0, 0x42c8_0000);
+    let g = reads(g, r, 3, 23, 0, 0);
+    let g = reads(g, r, 3, 24, 1, 0);
+    let g = reads(g, r, 3, 25, 0, 0);
+    let g = reads(g, r, 3, 36, 0, 0);
+    reads(g, r, 3, 38, 0, 0x42c8_0000)
+}
+
+fn reads_ain(good: bool, r: Replayed) -> bool {
+    let g = reads(good, r, 1, 1, 0, 0);
+    let g = reads(g, r, 1, 5, 0x08, 0);
+    let g = reads(g, r, 1, 7, 0, 0);
+    let g = reads(g, r, 1, 11, 0, 0x42c8_0000);
+    let g = reads(g, r, 1, 12, 0, 0x42c8_0000);
+    let g = reads(g, r, 1, 16, 0, 0);
+    let g = reads(g, r, 1, 17, 1, 0);
+    let g = reads(g, r, 1, 18, 0, 0);
+    let g = reads(g, r, 1, 19, 0x3f00_0000, 0);
+    let g = reads(g, r, 1, 21, 0x7f80_0000, 0);
+    let g = reads(g, r, 1, 23, 0x7f80_0000, 0);
+    let g = reads(g, r, 1, 25, 0xff80_0000, 0);
+    reads(g, r, 1, 27, 0xff80_0000, 0)
+}
+
+fn end(good: bool) {
+    if good {
+        text(b" passed");
+    }
+    text(b"\n");
+}
+
+// A malformed list: nothing of it counts.
+fn malformed(name: &[u8], list: &[u8], end_of_list: usize) {
+    let r = replayed(name, list, end_of_list);
+    let g = refused(r);
+    end(reads_factory(g, r));
+}
+
+// ---- lists
+
+fn empty() {
+    let list = [0u8; 1];
+    let r = replayed(b"the empty list", &list, 0);
+    let g = formed(r);
+    end(reads_factory(g, r));
+}
+
+fn warm_start_alone() {
+    let mut list = [0u8; 1];
+    let at = warm_start(&mut list, 0);
+    let r = replayed(b"a warm start alone", &list, at);
+    let g = formed(r);
+    end(reads_factory(g, r));
+}
+
+// (12 - 4) / (20 - 4) = 0.5, and 0.5 * 100 + 0 = 50. AO has no telegram: type 1 without a value, old OUT 0 with 4C.
+fn point_b() {
+    let mut list = [0u8; 128];
+    let at = write(&mut list, 0, 1, 11, 0x4080_0000, 0x41a0_0000);
+    let at = tick(&mut list, at, 0x4140_0000);
+    let r = replayed(b"point B", &list, at);
+    let g = formed(r);
+    let g = reads(g, r, 1, 10, 0x4248_0000, 0x80);
+    let g = reads(g, r, 1, 6, 0x08, 0);
+    let g = reads(g, r, 1, 1, 1, 0);
+    let g = reads(g, r, 1, 11, 0x4080_0000, 0x41a0_0000);
+    let g = reads(g, r, 1, 12, 0, 0x42c8_0000);
+    let g = reads(g, r, 2, 10, 0, 0x80);
+    end(reads(g, r, 3, 37, 0, 0x4c));
+}
+
+// Ground 6: the target is Auto. The pair is not kept, so a Man tick gives 0, 4C.
+fn write_refused() {
+    let mut list = [0u8; 128];
+    let at = write(&mut list, 0, 1, 10, 0x4120_0000, 0x80);
+    let r = replayed(b"a refused write", &list, at);
+    let g = formed(r);
+    end(reads_factory(g, r));
+    let at = write(&mut list, at, 1, 5, 0x10, 0);
+    let at = tick(&mut list, at, 0x4248_0000);
+    let r = replayed(b"a refused write, then Man", &list, at);
+    let g = formed(r);
+    let g = reads(g, r, 1, 10, 0, 0x4c);
+    end(reads(g, r, 1, 1, 1, 0));
+}
+
+// The same write with the target Man; OUT shows it after the tick. The target is S and OUT is not, so ST_REV is 1.
+fn write_accepted() {
+    let mut list = [0u8; 128];
+    let at = write(&mut list, 0, 1, 5, 0x10, 0);
+    let at = write(&mut list, at, 1, 10, 0x4120_0000, 0x80);
+    let r = replayed(b"an accepted write of OUT", &list, at);
+    let g = formed(r);
+    let g = reads(g, r, 1, 5, 0x10, 0);
+    let g = reads(g, r, 1, 1, 1, 0);
+    end(reads_started(g, r));
+    let at = tick(&mut list, at, 0x4248_0000);
+    let r = replayed(b"Man with the operator's pair", &list, at);
+    let g = formed(r);
+    let g = reads(g, r, 1, 6, 0x10, 0);
+    end(reads(g, r, 1, 10, 0x4120_0000, 0x80));
+}
+
+// AO's pair 25, 83; TOT's 12.5 is a total of 12,500 with 84.
+fn operator_of_others() {
+    let mut list = [0u8; 128];
+    let at = write(&mut list, 0, 3, 5, 0x10, 0);
+    let at = write(&mut list, at, 3, 37, 0x41c8_0000, 0x83);
+    let at = write(&mut list, at, 2, 5, 0x10, 0);
+    let at = write(&mut list, at, 2, 10, 0x4148_0000, 0x84);
+    let at = tick_rate(&mut list, at, 0x4120_0000);
+    let r = replayed(b"Man in AO and TOT", &list, at);
+    let g = formed(r);
+    let g = reads(g, r, 3, 37, 0x41c8_0000, 0x83);
+    let g = reads(g, r, 2, 10, 0x4148_0000, 0x84);
+    let g = reads(g, r, 3, 1, 1, 0);
+    end(reads(g, r, 2, 1, 1, 0));
+}
+
+// 0, 18 := 0 is accepted, the next write meets ground 4.
+fn locked() {
+    let mut list = [0u8; 128];
+    let at = write(&mut list, 0, 0, 18, 0, 0);
+    let at = write(&mut list, at, 1, 5, 0x10, 0);
+    let r = replayed(b"locked", &list, at);
+    let g = formed(r);
+    let g = reads(g, r, 0, 18, 0, 0);
+    let g = reads_ain(g, r);
+    end(reads_started(g, r));
+}
+
+// SP 50 with both scales 0, 100 is 50, and with OUT_SCALE 0, 200 it is 100.
+fn setpoint() {
+    let mut list = [0u8; 128];
+    let at = telegram(&mut list, 0, 0, 0, 5, b"\x42\x48\x00\x00\x80");
+    let at = tick(&mut list, at, 0);
+    let r = replayed(b"a telegram on SP", &list, at);
+    let g = formed(r);
+    let g = reads(g, r, 3, 6, 0x08, 0);
+    end(reads(g, r, 3, 37, 0x4248_0000, 0x80));
+    let at = write(&mut list, at, 3, 38, 0, 0x4348_0000);
+    let at = telegram(&mut list, at, 0, 0, 5, b"\x42\x48\x00\x00\xc0");
+    let at = tick(&mut list, at, 0);
+    let r = replayed(b"a second telegram, OUT_SCALE 0, 200", &list, at);
+    let g = formed(r);
+    let g = reads(g, r, 3, 1, 1, 0);
+    end(reads(g, r, 3, 37, 0x42c8_0000, 0x80));
+}
+
+// RCAS_IN 25 counts in RCas; SP 50 does not.
+fn remote() {
+    let mut list = [0u8; 128];
+    let at = telegram(&mut list, 0, 0, 0, 5, b"\x42\x48\x00\x00\x80");
+    let at = telegram(&mut list, at, 1, 0, 5, b"\x41\xc8\x00\x00\xc0");
+    let at = write(&mut list, at, 3, 5, 0x02, 0);
+    let at = tick(&mut list, at, 0);
+    let r = replayed(b"a telegram on RCAS_IN", &list, at);
+    let g = formed(r);
+    let g = reads(g, r, 3, 6, 0x02, 0);
+    end(reads(g, r, 3, 37, 0x41c8_0000, 0x80));
+}
+
+// Grounds 7 and 8. The calls after a refused telegram are still found: the tick gives old OUT 0 with 4C.
+fn telegram_of(name: &[u8], input: u8, bytes: &[u8]) {
+    let mut list = [0u8; 128];
+    let said = bytes.len();
+    if said > 9 {
+        return;
+    }
+    let at = telegram(&mut list, 0, input, 0, said as u32, bytes);
+    let at = tick(&mut list, at, 0x4248_0000);
+    let r = replayed(name, &list, at);
+    let g = formed(r);
+    let g = reads(g, r, 1, 10, 0x4248_0000, 0x80);
+    end(reads(g, r, 3, 37, 0, 0x4c));
+}
+
+// What was accepted before still counts: OUT 50.
+fn refused_after_accepted() {
+    let mut list = [0u8; 128];
+    let at = telegram(&mut list, 0, 0, 0, 5, b"\x42\x48\x00\x00\x80");
+    let at = telegram(&mut list, at, 0, 0, 4, b"\x41\xc8\x00\x00");
+    let at = telegram(&mut list, at, 2, 0, 5, b"\x41\xc8\x00\x00\x80");
+    let at = tick(&mut list, at, 0);
+    let r = replayed(b"refused telegrams after an accepted one", &list, at);
+    let g = formed(r);
+    end(reads(g, r, 3, 37, 0x4248_0000, 0x80));
+}
+
+// Rate 10 adds 1000 in a tick: 1, then 2. Rate 0.015625 adds 1.5625 cut to 1, and its negative -1: 0.002 and -0.001.
+fn totals() {
+    let mut list = [0u8; 128];
+    let at = tick_rate(&mut list, 0, 0x4120_0000);
+    let at = tick_rate(&mut list, at, 0x4120_0000);
+    let r = replayed(b"a total after two ticks", &list, at);
+    let g = formed(r);
+    let g = reads(g, r, 2, 6, 0x08, 0);
+    end(reads(g, r, 2, 10, 0x4000_0000, 0x80));
+    let at = tick_rate(&mut list, 0, 0x3c80_0000);
+    let at = tick_rate(&mut list, at, 0x3c80_0000);
+    let r = replayed(b"point E twice", &list, at);
+    let g = formed(r);
+    end(reads(g, r, 2, 10, 0x3b03_126f, 0x80));
+    let at = tick_rate(&mut list, 0, 0xbc80_0000);
+    let r = replayed(b"point F", &list, at);
+    let g = formed(r);
+    end(reads(g, r, 2, 10, 0xba83_126f, 0x80));
+}
+
+// A warm start keeps the total and forgets the last usable rate: memory then adds nothing and gives 4C. OUT's status is 1F
+// until then.
+fn total_kept() {
+    let mut list = [0u8; 128];
+    let at = write(&mut list, 0, 2, 15, 2, 0);
+    let at = tick_rate(&mut list, at, 0x4120_0000);
+    let at = warm_start(&mut list, at);
+    let r = replayed(b"a total and a warm start", &list, at);
+    let g = formed(r);
+    let g = reads(g, r, 2, 15, 2, 0);
+    let g = reads(g, r, 2, 6, 0x80, 0);
+    end(reads(g, r, 2, 10, 0x3f80_0000, 0x1f));
+    let at = tick_with(&mut list, at, 0, 0, 0x80, 0x4120_0000, 0x00);
+    let r = replayed(b"then a Bad rate", &list, at);
+    let g = formed(r);
+    end(reads(g, r, 2, 10, 0x3f80_0000, 0x4c));
+}
+
+// Point D, both scales 0, 64: 80 raises HI, 79.5 keeps it, 79.25 clears it.
+fn alarm() {
+    let mut list = [0u8; 128];
+    let at = write(&mut list, 0, 1, 11, 0, 0x4280_0000);
+    let at = write(&mut list, at, 1, 12, 0, 0x4280_0000);
+    let at = write(&mut list, at, 1, 23, 0x42a0_0000, 0);
+    let at = tick(&mut list, at, 0x42a0_0000);
+    let r = replayed(b"an alarm rises", &list, at);
+    let g = formed(r);
+    let g = reads(g, r, 1, 7, 2, 0);
+    let g = reads(g, r, 1, 1, 3, 0);
+    end(reads(g, r, 1, 10, 0x42a0_0000, 0x8a));
+    let kept = tick(&mut list, at, 0x429f_0000);
+    let r = replayed(b"it stays", &list, kept);
+    let g = formed(r);
+    let g = reads(g, r, 1, 7, 2, 0);
+    end(reads(g, r, 1, 10, 0x429f_0000, 0x8a));
+    let fallen = tick(&mut list, kept, 0x429e_8000);
+    let r = replayed(b"it falls", &list, fallen);
+    let g = formed(r);
+    let g = reads(g, r, 1, 7, 0, 0);
+    end(reads(g, r, 1, 10, 0x429e_8000, 0x80));
+    let warm = warm_start(&mut list, at);
+    let r = replayed(b"a warm start forgets it", &list, warm);
+    let g = formed(r);
+    let g = reads(g, r, 1, 7, 0, 0);
+    let g = reads(g, r, 1, 23, 0x42a0_0000, 0);
+    end(reads(g, r, 1, 10, 0x42a0_0000, 0x1f));
+}
+
+// Equal values count. SET_TOT is N, and a refused write (ground 5) counts for nothing.
+fn revisions() {
+    let mut list = [0u8; 128];
+    let at = write(&mut list, 0, 1, 16, 0x3fc0_0000, 0);
+    let at = write(&mut list, at, 1, 16, 0x3fc0_0000, 0);
+    let at = write(&mut list, at, 1, 5, 0x02, 0);
+    let at = write(&mut list, at, 2, 13, 1, 0);
+    let r = replayed(b"ST_REV after two S writes", &list, at);
+    let g = formed(r);
+    let g = reads(g, r, 1, 1, 2, 0);
+    let g = reads(g, r, 1, 16, 0x3fc0_0000, 0);
+    let g = reads(g, r, 1, 5, 0x08, 0);
+    let g = reads(g, r, 2, 1, 0, 0);
+    end(reads(g, r, 2, 13, 1, 0));
+}
+
+// A tick with the fault flag is O/S: the values stay, with 1F.
+fn faulty() {
+    let mut list = [0u8; 128];
+    let at = tick(&mut list, 0, 0x4248_0000);
+    let at = tick_with(&mut list, at, 1, 0x41c8_0000, 0x80, 0x4120_0000, 0x80);
+    let r = replayed(b"a tick with a fault", &list, at);
+    let g = formed(r);
+    let g = reads(g, r, 1, 6, 0x80, 0);
+    let g = reads(g, r, 1, 10, 0x4248_0000, 0x1f);
+    let g = reads(g, r, 2, 10, 0, 0x1f);
+    end(reads(g, r, 3, 37, 0, 0x1f));
+}
+
+// ---- answers after a list
+
+fn numbered(name: &[u8], answer: Answer, number: u8) {
+    let n = wire::answer_number(answer);
+    text(name);
+    text(b":");
+    if n == number {
+        text(b" passed\n");
+        return;
+    }
+    text(b" ");
+    io::print_decimal(STDOUT_FILENO, n as u64);
+    text(b"\n");
+}
+
+fn ordered(name: &[u8], order: Order, bits: u32) {
+    text(name);
+    text(b":");
+    match order {
+        Order::Position(x) => {
+            let b = numbers::floats::bits_of(x);
+            if b == bits {
+                text(b" passed\n");
+                return;
+            }
+            text(b" Position ");
+            io::print_hex(STDOUT_FILENO, b as u64, 8);
+            text(b"\n");
+        }
+        Order::Safe => {
+            text(b" Safe\n");
+        }
+        Order::Rest => {
+            text(b" Rest\n");
+        }
+    }
+}
+
+// The first bytes of a buffer, or all of it.
+fn first(list: &[u8], end: usize) -> &[u8] {
+    if end > list.len() {
+        return list;
+    }
+    &list[0..end]
+}
+
+// After SP 50 a tick orders Position 50.
+fn order_after() {
+    let mut list = [0u8; 128];
+    let at = telegram(&mut list, 0, 0, 0, 5, b"\x42\x48\x00\x00\x80");
+    let none = Pair {
+        bits: 0,
+        status: 0x80,
+    };
+    let order = history::order_after(first(&list, at), false, none, none);
+    ordered(b"a tick's order after a telegram", order, 0x4248_0000);
+}
+
+// Ground 6 fresh, and none once the target is Man. Input 2 is 8, four bytes are 7.
+fn answers_after() {
+    let mut list = [0u8; 128];
+    let fresh = history::write_after(b"", 1, 10, 0x4120_0000, 0x80);
+    numbered(b"a write of OUT, fresh", fresh, 6);
+    let at = write(&mut list, 0, 1, 5, 0x10, 0);
+    let man = history::write_after(first(&list, at), 1, 10, 0x4120_0000, 0x80);
+    numbered(b"a write of OUT, target Man", man, 0);
+    let two = history::telegram_after(first(&list, at), 2, b"\x42\x48\x00\x00");
+    numbered(b"a telegram on input 2 after a list", two, 8);
+    let four = history::telegram_after(first(&list, at), 1, b"\x42\x48\x00\x00");
+    numbered(b"a telegram of 4 bytes after a list", four, 7);
+}
+
+// An image of 14 bytes is 7; of 16 it has AIN's five bytes, TOT's and AO's, fresh 0 with 1F, and its last byte as it was.
+fn image_after() {
+    let mut short = [9u8; 14];
+    let refused = history::image_after(b"", &mut short);
+    numbered(b"an image of 14 bytes", refused, 7);
+    let mut room = [9u8; 16];
+    let filled = history::image_after(b"", &mut room);
+    numbered(b"an image of 16 bytes", filled, 0);
+    text(b"its bytes:");
+    let given = (room[4] == 0x1f) & (room[9] == 0x1f) & (room[14] == 0x1f);
+    end(given & (room[0] == 0) & (room[13] == 0) & (room[15] == 9));
+}
+
+// A rate of 10 adds 1000, and ALARM_HYS is 0.5.
+fn total_after() {
+    let mut list = [0u8; 128];
+    let at = tick_rate(&mut list, 0, 0x4120_0000);
+    let total = history::total_after(first(&list, at));
+    text(b"the total after a tick:");
+    end(total == 1000);
+    let reading = history::read_after(first(&list, at), 1, 19);
+    text(b"a read of 1, 19 after a list:");
+    match reading {
+        Reading::Read(w) => {
+            let hysteresis = w.first;
+            end(hysteresis == 0x3f00_0000);
+        }
+        Reading::Refused(_) => {
+            end(false);
+        }
+    }
+}
+
+// ---- malformed lists
+
+fn no_such_kind() {
+    malformed(b"malformed, kind 4", b"\x04", 1);
+    malformed(b"malformed, kind 255", b"\xff", 1);
+}
+
+fn ticks_malformed() {
+    let mut list = [0u8; 128];
+    let at = tick_with(&mut list, 0, 2, 0x4248_0000, 0x80, 0, 0x80);
+    malformed(b"malformed, a tick with fault 2", &list, at);
+    tick(&mut list, 0, 0x4248_0000);
+    malformed(b"malformed, a tick of 11 bytes", &list, 11);
+    malformed(b"malformed, a tick of 1 byte", &list, 1);
+}
+
+fn writes_malformed() {
+    let mut list = [0u8; 128];
+    write(&mut list, 0, 1, 5, 0x10, 0);
+    malformed(b"malformed, a write of 10 bytes", &list, 10);
+    malformed(b"malformed, a write of 1 byte", &list, 1);
+}
+
+// The length says more bytes than there are: by one, by its high word, by all that two words can say.
+fn telegrams_malformed() {
+    let mut list = [0u8; 128];
+    let at = telegram(&mut list, 0, 0, 0, 5, b"\x42\x48\x00\x00");
+    malformed(b"malformed, a telegram of 5 with 4 bytes", &list, at);
+    let at = telegram(&mut list, 0, 0, 1, 5, b"\x42\x48\x00\x00\x80");
+    malformed(b"malformed, a length with its high word set", &list, at);
+    let most = 0xffff_ffff;
+    let at = telegram(&mut list, 0, 0, most, most, b"\x42\x48\x00\x00\x80");
+    malformed(b"malformed, the greatest length", &list, at);
+    telegram(&mut list, 0, 0, 0, 0, b"");
+    malformed(
+        b"malformed, a telegram of 9 bytes, cut in its length",
+        &list,
+        9,
+    );
+}
+
+// What stands before a malformed call does not count, nor what stands after it.
+fn good_then_malformed() {
+    let mut list = [0u8; 128];
+    let at = write(&mut list, 0, 1, 5, 0x10, 0);
+    let at = tick(&mut list, at, 0x4248_0000);
+    let at = text::put_bytes(&mut list, at, b"\x04");
+    malformed(b"malformed after a write and a tick", &list, at);
+    let at = warm_start(&mut list, at);
+    malformed(b"malformed between good calls", &list, at);
+}
+
+fn main() {
+    empty();
+    warm_start_alone();
+    point_b();
+    write_refused();
+    write_accepted();
+    operator_of_others();
+    locked();
+    setpoint();
+    remote();
+    telegram_of(b"a telegram of 4 bytes", 0, b"\x42\x48\x00\x00");
+    telegram_of(b"a telegram of 6 bytes", 0, b"\x42\x48\x00\x00\x80\x00");
+    telegram_of(b"a telegram of no bytes", 0, b"");
+    telegram_of(b"a telegram on input 2", 2, b"\x42\x48\x00\x00\x80");
+    refused_after_accepted();
+    totals();
+    total_kept();
+    alarm();
+    revisions();
+    faulty();
+    order_after();
+    answers_after();
+    image_after();
+    total_after();
+    no_such_kind();
+    ticks_malformed();
+    writes_malformed();
+    telegrams_malformed();
+    good_then_malformed();
+}
