@@ -70,10 +70,10 @@ def below(crate):
 # ---- what a check says
 
 # An error that says no more than that a declaration rests on one which was refused.
-RESTS = re.compile(r"was not admitted \(it has holes")
+RESTS = re.compile(r"was not admitted \(it has holes|cannot be unfolded because it was not admitted")
 # A proof that cites what is not there any more, or whose parts are not those that are asked for, as told of the declaration that
 # puts them together: it shows nothing about the contract.
-UNNAMED = re.compile(r"^`[^`]*-spec`: |has no field `|can be named from here|not in scope|expected type `tie\.Need-")
+UNNAMED = re.compile(r"^`[^`]*-spec`: |has no field `|can be named from here|not in scope|missing field\(s\) of|expected type `tie\.Need-")
 # The front end's errors have a code, as error[unknown-name]; antt's have none.
 ERROR = re.compile(r"(?P<crate>\w+)/(?P<file>\S+?):(?P<line>\d+):(?P<column>\d+): error(?P<code>\[\S+\])?: (?P<text>.*)")
 
