@@ -1,0 +1,234 @@
+-- Laws of the definitions in this folder, for proofs and for callers. Assumes nothing.
+use Prim.Native.Nat.{ℕ, zero, suc, _+_, _*_, _-_, _/_, _%_, _^_, _≤_, _<_}
+use native.Mathlib.Omega.{arith}
+use mathlib.Core.Path.{_≡_, refl, sym, ap, _∙_}
+use mathlib.Core.Bool.{Bool, true, false, cond, _&&_}
+use mathlib.Core.List.{List, [], _∷_, _++_, append-assoc, append-nil}
+use lib.ListN.{length, getD, take, drop, length-append, length-take, length-drop, take-append-drop, drop-of-length-le}
+use lib.Seq.{take-at, take-suc, drop-drop, drop-append-add}
+use lib.IntN.{ℤ, pos, negsuc}
+use lib.Signed.{mag}
+use lib.Dec.{T, leb, ltb, eqb}
+use lib.Ieee.{Float, binary32, fits}
+use lib.Ieee.Bits.{toBits-lt}
+use borrow.Author.Tests.{eqb-true, eq-eqb, ne-eqb, lt-ltb, le-ltb, le-leb}
+use Rattle.wire.specs.Bytes.{wordBytes, wordOf, replaced}
+use Rattle.numbers.specs.Floats.{bitsOf}
+use Rattle.device.specs.declared.Device.{Device}
+use Rattle.packing.specs.declared.Unpacked.{Unpacked}
+use Rattle.packing.specs.Words.{flag, twos, ofTwos, firstWords, ainWords, totWords, aoWords, wordsOf, Small}
+use Rattle.packing.specs.Words.{ainSettings, ainState, ainOf, totSettings, totState, totOf, aoSettings, aoState, aoOf, deviceOf}
+use Rattle.packing.specs.Packed.{bytesOf, packedOf, packBytes, wordsIn, sameBytes, accepted, refusedBy, unpackedOf}
+
+-- ---- words and bytes
+
+pub bytes-append : (a b : List ℕ) → bytesOf (a ++ b) ≡ bytesOf a ++ bytesOf b
+bytes-append [] b = refl
+bytes-append (w ∷ a) b = rw (bytes-append a b)
+
+pub bytes-length : (a : List ℕ) → length (bytesOf a) ≡ 4 * length a
+bytes-length [] = refl
+bytes-length (w ∷ a) = let h = bytes-length a in omega arith
+
+-- the word at a place is that of its four bytes
+pub word-in : (s : List ℕ) (i : ℕ) → 4 * i + 4 ≤ length s →
+    getD (wordsIn s) i 0 ≡ wordOf (getD s (4 * i) 0) (getD s (4 * i + 1) 0) (getD s (4 * i + 2) 0) (getD s (4 * i + 3) 0)
+word-in [] i h = absurd (omega arith)
+word-in (a ∷ []) i h = absurd (omega arith)
+word-in (a ∷ b ∷ []) i h = absurd (omega arith)
+word-in (a ∷ b ∷ c ∷ []) i h = absurd (omega arith)
+word-in (a ∷ b ∷ c ∷ d ∷ s) zero h = refl
+word-in (a ∷ b ∷ c ∷ d ∷ s) (suc i) h =
+    let e0 : 4 * suc i ≡ suc (suc (suc (suc (4 * i)))) = omega arith in
+    let e1 : 4 * suc i + 1 ≡ suc (suc (suc (suc (4 * i + 1)))) = omega arith in
+    let e2 : 4 * suc i + 2 ≡ suc (suc (suc (suc (4 * i + 2)))) = omega arith in
+    let e3 : 4 * suc i + 3 ≡ suc (suc (suc (suc (4 * i + 3)))) = omega arith in
+    rw (e3, e2, e1, e0) (word-in s i (omega arith))
+
+pub small-append : (a b : List ℕ) → Small a → Small b → Small (a ++ b)
+small-append [] b h k = k
+small-append (w ∷ a) b h k = (h .0, small-append a b (h .1) k)
+
+-- words are read again from their bytes
+pub words-back : (ws : List ℕ) → Small ws → wordsIn (bytesOf ws) ≡ ws
+words-back [] h = refl
+words-back (w ∷ ws) h =
+    let l = h .0 in
+    let e : wordOf (w / 2 ^ 24) (w / 2 ^ 16 % 256) (w / 2 ^ 8 % 256) (w % 256) ≡ w = omega arith in
+    rw (e, words-back ws (h .1))
+
+-- ---- bytes put one after the other
+
+pub replaced-twice : (s : List ℕ) (at : ℕ) (a b : List ℕ) → at + length a + length b ≤ length s →
+    replaced (replaced s at a) (at + length a) b ≡ replaced s at (a ++ b)
+replaced-twice s at a b h =
+    let front = take at s ++ a in
+    let rest = drop (at + length a) s in
+    let m : length front ≡ at + length a = simp (length-append, length-take) (omega arith) in
+    let n : at + length a + length b ≡ length front + length b = omega arith in
+    let after : drop (at + length a + length b) (front ++ rest) ≡ drop (at + length a + length b) s =
+    ap (λ (k : ℕ). drop k (front ++ rest)) n ∙ drop-append-add front rest (length b) ∙ drop-drop (length b) (at + length a) s in
+    let e : at + length (a ++ b) ≡ at + length a + length b = omega (arith, length-append a b) in
+    rw (take-at front rest (at + length a) m, after, e) (simp append-assoc)
+
+pub replaced-length : (s : List ℕ) (at : ℕ) (a : List ℕ) → at + length a ≤ length s → length (replaced s at a) ≡ length s
+replaced-length s at a h = simp (length-append, length-take, length-drop) (omega arith)
+
+-- no bytes
+pub put-none : (s : List ℕ) (at : ℕ) → replaced s at [] ≡ s
+put-none s at = let e : at + 0 ≡ at = omega arith in rw (append-nil, e) (take-append-drop at s)
+
+-- one word more
+pub put-more : (s : List ℕ) (at : ℕ) (ws : List ℕ) (i : ℕ) → i < length ws → at + 4 * length ws ≤ length s →
+    replaced (replaced s at (bytesOf (take i ws))) (at + 4 * i) (wordBytes (getD ws i 0)) ≡ replaced s at (bytesOf (take (suc i) ws))
+put-more s at ws i h room =
+    let front = bytesOf (take i ws) in
+    let l : length front ≡ 4 * i = bytes-length (take i ws) ∙ simp length-take (omega arith) in
+    let e : at + 4 * i ≡ at + length front = omega arith in
+    rw (take-suc ws i 0 h, bytes-append (take i ws) (getD ws i 0 ∷ []), e) (replaced-twice s at front (wordBytes (getD ws i 0)) (omega arith))
+
+-- ---- comparing
+
+pub same-true : (s t : List ℕ) → sameBytes s t ≡ true → s ≡ t
+same-true [] [] e = refl
+same-true [] (b ∷ t) e = cc
+same-true (a ∷ s) [] e = cc
+same-true (a ∷ s) (b ∷ t) e = go (eqb a b) refl e (same-true s t)
+  where
+    go : (q : Bool) → eqb a b ≡ q → (q && sameBytes s t) ≡ true → (sameBytes s t ≡ true → s ≡ t) → a ∷ s ≡ b ∷ t
+    go true q f rest = rw (eqb-true a b q, rest f)
+    go false q f rest = cc
+
+pub same-self : (s : List ℕ) → sameBytes s s ≡ true
+same-self [] = refl
+same-self (a ∷ s) = rw (eq-eqb a a refl, same-self s)
+
+pub same-of : (s t : List ℕ) → s ≡ t → sameBytes s t ≡ true
+same-of s t e = ap (sameBytes s) (sym e) ∙ same-self s
+
+pub same-not : (s t : List ℕ) → (s ≡ t → ⊥) → sameBytes s t ≡ false
+same-not s t n = go (sameBytes s t) refl
+  where
+    go : (q : Bool) → sameBytes s t ≡ q → q ≡ false
+    go true e = absurd (n (same-true s t e))
+    go false e = refl
+
+-- ---- fields
+
+pub bits-small : (x : Float) → T (fits binary32 x) → bitsOf x < 2 ^ 32
+bits-small x h = toBits-lt binary32 x h
+
+pub flag-small : (b : Bool) → flag b < 2 ^ 32
+flag-small true = omega arith
+flag-small false = omega arith
+
+pub flag-back : (b : Bool) → eqb (flag b) 1 ≡ b
+flag-back true = refl
+flag-back false = refl
+
+pub byte-small : (n : ℕ) → n < 256 → n < 2 ^ 32
+byte-small n h = omega arith
+
+pub byte-back : (n : ℕ) → n < 256 → n % 256 ≡ n
+byte-back n h = omega arith
+
+pub half-small : (n : ℕ) → n < 65536 → n < 2 ^ 32
+half-small n h = omega arith
+
+pub half-back : (n : ℕ) → n < 65536 → n % 65536 ≡ n
+half-back n h = omega arith
+
+pub high-small : (z : ℤ) → mag z < 2 ^ 63 → twos z / 2 ^ 32 < 2 ^ 32
+high-small (pos n) h = omega arith
+high-small (negsuc n) h = omega arith
+
+pub low-small : (z : ℤ) → twos z % 2 ^ 32 < 2 ^ 32
+low-small z = omega arith
+
+twos-back : (z : ℤ) → mag z < 2 ^ 63 → ofTwos (twos z) ≡ z
+twos-back (pos n) h = rw (lt-ltb n (2 ^ 63) h)
+twos-back (negsuc n) h = rw (le-ltb (2 ^ 64 - suc n) (2 ^ 63) (omega arith)) (ap negsuc (omega arith))
+
+pub total-back : (z : ℤ) → mag z < 2 ^ 63 → ofTwos (twos z / 2 ^ 32 * 2 ^ 32 + twos z % 2 ^ 32) ≡ z
+total-back z h = let e : twos z / 2 ^ 32 * 2 ^ 32 + twos z % 2 ^ 32 ≡ twos z = omega arith in ap ofTwos e ∙ twos-back z h
+
+-- ---- a device packed
+
+pub packed-length : (d : Device) → length (packedOf d) ≡ 264
+unfolding packedOf wordsOf ainWords totWords aoWords
+packed-length d = refl
+
+-- into a buffer of its own length
+pub pack-exact : (s : List ℕ) (d : Device) → length s ≡ 264 → packBytes s d ≡ packedOf d
+unfolding packBytes
+pack-exact s d h =
+    rw (le-leb 264 (length s) (omega arith), drop-of-length-le s {i = 264} (omega arith)) (append-nil (packedOf d))
+
+-- the four parts put one after the other are the packed form
+pub pack-puts : (s : List ℕ) (d : Device) → 264 ≤ length s →
+    let front = replaced (replaced s 0 (bytesOf (firstWords (d .«write_locking»)))) 8 (bytesOf (ainWords (d .ain))) in
+    replaced (replaced front 116 (bytesOf (totWords (d .tot)))) 172 (bytesOf (aoWords (d .ao))) ≡ packBytes s d
+unfolding packBytes packedOf wordsOf ainWords totWords aoWords
+pack-puts s d h =
+    let f = firstWords (d .«write_locking») in
+    let a = ainWords (d .ain) in
+    let t = totWords (d .tot) in
+    let o = aoWords (d .ao) in
+    ap (λ (x : List ℕ). replaced (replaced x 116 (bytesOf t)) 172 (bytesOf o)) (replaced-twice s 0 (bytesOf f) (bytesOf a) (omega arith))
+    ∙ ap (λ (x : List ℕ). replaced x 172 (bytesOf o)) (replaced-twice s 0 (bytesOf f ++ bytesOf a) (bytesOf t) (omega arith))
+    ∙ replaced-twice s 0 (bytesOf f ++ bytesOf a ++ bytesOf t) (bytesOf o) (omega arith)
+    ∙ rw (le-leb 264 (length s) h)
+
+-- a block's words are small and the block is read again from them
+module _ (d : Device) (first : Small (firstWords (d .«write_locking»)))
+    (ain : Small (ainWords (d .ain)) × (ainOf (ainWords (d .ain)) 0 ≡ d .ain))
+    (tot : Small (totWords (d .tot)) × (totOf (totWords (d .tot)) 0 ≡ d .tot))
+    (ao : Small (aoWords (d .ao)) × (aoOf (aoWords (d .ao)) 0 ≡ d .ao)) where
+  small-all : Small (wordsOf d)
+  unfolding wordsOf
+  small-all =
+      let f = firstWords (d .«write_locking») in
+      let a = ainWords (d .ain) in
+      let t = totWords (d .tot) in
+      small-append (f ++ a ++ t) (aoWords (d .ao)) (small-append (f ++ a) t (small-append f a first (ain .0)) (tot .0)) (ao .0)
+
+  device-back : deviceOf (wordsOf d) ≡ d
+  unfolding deviceOf wordsOf ainOf totOf aoOf ainSettings ainState totSettings totState aoSettings aoState ainWords totWords aoWords
+  device-back = rw (ain .1, tot .1, ao .1)
+
+  -- so what was packed is unpacked again
+  pub unpack-pack : unpackedOf (packedOf d) ≡ accepted d
+  unfolding unpackedOf packedOf
+  unpack-pack =
+      let l : length (bytesOf (wordsOf d)) ≡ 264 = packed-length d in
+      let w : wordsIn (bytesOf (wordsOf d)) ≡ wordsOf d = words-back (wordsOf d) small-all in
+      rw (w, device-back, eq-eqb (length (bytesOf (wordsOf d))) 264 l, same-self (bytesOf (wordsOf d)))
+
+-- ---- bytes unpacked
+
+module _ (s : List ℕ) where
+  pub unpack-length : (length s ≡ 264 → ⊥) → unpackedOf s ≡ refusedBy 7
+  unfolding unpackedOf
+  unpack-length n = rw (ne-eqb (length s) 264 n)
+
+  pub unpack-yes : length s ≡ 264 → s ≡ packedOf (deviceOf (wordsIn s)) → unpackedOf s ≡ accepted (deviceOf (wordsIn s))
+  unfolding unpackedOf
+  unpack-yes l e = rw (eq-eqb (length s) 264 l, same-of s (packedOf (deviceOf (wordsIn s))) e)
+
+  pub unpack-no : length s ≡ 264 → (s ≡ packedOf (deviceOf (wordsIn s)) → ⊥) → unpackedOf s ≡ refusedBy 255
+  unfolding unpackedOf
+  unpack-no l n = rw (eq-eqb (length s) 264 l, same-not s (packedOf (deviceOf (wordsIn s))) n)
+
+  -- what is accepted packs to the bytes that it came from
+  pub pack-unpack : unpackedOf s .answer ≡ 0 → packedOf (unpackedOf s .device) ≡ s
+  unfolding unpackedOf
+  pack-unpack = go (eqb (length s) 264) (sameBytes s (packedOf d)) refl
+    where
+      d : Device
+      d = deviceOf (wordsIn s)
+
+      go : (l q : Bool) → sameBytes s (packedOf d) ≡ q → cond l (cond q (accepted d) (refusedBy 255)) (refusedBy 7) .answer ≡ 0 →
+          packedOf (cond l (cond q (accepted d) (refusedBy 255)) (refusedBy 7) .device) ≡ s
+      go true true e h = sym (same-true s (packedOf d) e)
+      go true false e h = absurd (omega arith)
+      go false q e h = absurd (omega arith)
