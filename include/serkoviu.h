@@ -1,12 +1,27 @@
-/* The intake head's function blocks AIN, TOT and AO for C11 and C++17: the calls of libcapi.a (x86-64, System V).
+/* The intake head's function blocks AIN, TOT and AO for C11 and C++17: the calls of libcapi.a. docs/embedding.md says how
+ * to link it, what a call costs and how a device outlives a loss of power; docs/parameters.md has every parameter.
  *
- * A device is a plain struct that the caller holds. No call uses the heap, a global variable or a clock; calls on
- * different devices may run at the same time. Every call is defined for every argument, as long as each bool is 0 or
- * 1 and each pointer points to a device, or to as many bytes as its length says (it is not null, also where the length
- * is 0). A device starts as what serkoviu_factory gives. A tick works on it in place; the other calls, which are rare,
- * take it by value and give the next one. */
+ * A device is a plain struct that the caller holds; it starts as what serkoviu_factory gives. It has no pointer in it and
+ * may be copied and moved. What is stored or compared is its packed form (serkoviu_pack): padding bytes of the struct
+ * have no fixed value, and its layout may change with SERKOVIU_VERSION.
+ *
+ * Every call is defined for every argument under these conditions, which no call can test:
+ * - Floats are computed with SSE under the caller's MXCSR. Rounding is to nearest, flush-to-zero and denormals-are-zero
+ *   are off and exceptions are masked, the state in which a process starts. Start-up code that -ffast-math links sets
+ *   both flags, and a library may leave another direction of rounding; the values given are then not the proved ones.
+ * - No pointer is null, also where a length is 0. It points to a device, or to as many bytes as the length says.
+ * - A device and the bytes lent in the same call do not overlap.
+ * - A device is used by one thread at a time, and by no interrupt within a call. An interrupt on the caller's stack leaves
+ *   the 128 bytes below the stack pointer alone (the red zone of System V). No call uses the heap, a global variable or a
+ *   clock, so calls on different devices may run at the same time.
+ * - A bool is 0 or 1. */
 #ifndef SERKOVIU_H
 #define SERKOVIU_H
+
+#if !defined(__x86_64__) || defined(__ILP32__) || defined(_WIN32) || defined(__CYGWIN__) || \
+    !defined(__BYTE_ORDER__) || __BYTE_ORDER__ != __ORDER_LITTLE_ENDIAN__
+#error "libcapi.a is for x86-64, little-endian, System V: the toolchain makes no other archive"
+#endif
 
 #include <stdbool.h>
 #include <stddef.h>
@@ -16,13 +31,134 @@
 extern "C" {
 #endif
 
+/* Version of this header: major, minor and patch in a byte each. serkoviu_version gives that of the archive. */
+#define SERKOVIU_VERSION 0x00010000
+/* The form of a packed device; it stands in its first four bytes. */
+#define SERKOVIU_LAYOUT_VERSION 1
+
 /* Blocks. */
 #define SERKOVIU_PHYSICAL 0
 #define SERKOVIU_AIN 1
 #define SERKOVIU_TOT 2
 #define SERKOVIU_AO 3
 
-/* Answers: accepted, or the ground of refusal. */
+/* Parameters of the physical block. */
+#define SERKOVIU_PHYSICAL_WRITE_LOCKING 18
+
+/* Parameters of AIN. */
+#define SERKOVIU_AIN_ST_REV 1
+#define SERKOVIU_AIN_TARGET_MODE 5
+#define SERKOVIU_AIN_ACTUAL_MODE 6
+#define SERKOVIU_AIN_ALARMS 7
+#define SERKOVIU_AIN_OUT 10
+#define SERKOVIU_AIN_PV_SCALE 11
+#define SERKOVIU_AIN_OUT_SCALE 12
+#define SERKOVIU_AIN_PV_FTIME 16
+#define SERKOVIU_AIN_FSAFE_TYPE 17
+#define SERKOVIU_AIN_FSAFE_VALUE 18
+#define SERKOVIU_AIN_ALARM_HYS 19
+#define SERKOVIU_AIN_HI_HI_LIM 21
+#define SERKOVIU_AIN_HI_LIM 23
+#define SERKOVIU_AIN_LO_LIM 25
+#define SERKOVIU_AIN_LO_LO_LIM 27
+
+/* Parameters of TOT. */
+#define SERKOVIU_TOT_ST_REV 1
+#define SERKOVIU_TOT_TARGET_MODE 5
+#define SERKOVIU_TOT_ACTUAL_MODE 6
+#define SERKOVIU_TOT_TOTAL 10
+#define SERKOVIU_TOT_SET_TOT 13
+#define SERKOVIU_TOT_MODE_TOT 14
+#define SERKOVIU_TOT_FAIL_TOT 15
+#define SERKOVIU_TOT_PRESET_TOT 16
+
+/* Parameters of AO. */
+#define SERKOVIU_AO_ST_REV 1
+#define SERKOVIU_AO_TARGET_MODE 5
+#define SERKOVIU_AO_ACTUAL_MODE 6
+#define SERKOVIU_AO_PV_SCALE 11
+#define SERKOVIU_AO_FSAFE_TIME 23
+#define SERKOVIU_AO_FSAFE_TYPE 24
+#define SERKOVIU_AO_FSAFE_VALUE 25
+#define SERKOVIU_AO_INCREASE_CLOSE 36
+#define SERKOVIU_AO_OUT 37
+#define SERKOVIU_AO_OUT_SCALE 38
+
+/* Words of WRITE_LOCKING. */
+#define SERKOVIU_WRITE_LOCKING_ON 0
+#define SERKOVIU_WRITE_LOCKING_OFF 2457
+
+/* Words of TARGET_MODE and ACTUAL_MODE; RCas in AO alone. */
+#define SERKOVIU_MODE_OS 0x80
+#define SERKOVIU_MODE_MAN 0x10
+#define SERKOVIU_MODE_AUTO 0x08
+#define SERKOVIU_MODE_RCAS 0x02
+
+/* Words of FSAFE_TYPE: FSAFE_VALUE, the last usable value; then in AIN the value as it comes, and in AO the drive order
+ * Safe. */
+#define SERKOVIU_FSAFE_TYPE_VALUE 0
+#define SERKOVIU_FSAFE_TYPE_LAST 1
+#define SERKOVIU_FSAFE_TYPE_BAD_VALUE 2
+#define SERKOVIU_FSAFE_TYPE_SAFE 2
+
+/* Words of SET_TOT. */
+#define SERKOVIU_SET_TOT_RUN 0
+#define SERKOVIU_SET_TOT_RESET 1
+#define SERKOVIU_SET_TOT_PRESET 2
+
+/* Words of MODE_TOT. */
+#define SERKOVIU_MODE_TOT_BALANCED 0
+#define SERKOVIU_MODE_TOT_POSITIVE 1
+#define SERKOVIU_MODE_TOT_NEGATIVE 2
+#define SERKOVIU_MODE_TOT_HOLD 3
+
+/* Words of FAIL_TOT. */
+#define SERKOVIU_FAIL_TOT_RUN 0
+#define SERKOVIU_FAIL_TOT_HOLD 1
+#define SERKOVIU_FAIL_TOT_MEMORY 2
+
+/* Words of INCREASE_CLOSE: OUT rises, or falls, with the setpoint. */
+#define SERKOVIU_INCREASE_CLOSE_RISING 0
+#define SERKOVIU_INCREASE_CLOSE_FALLING 1
+
+/* Bits of ALARMS. */
+#define SERKOVIU_ALARM_HI_HI 0x01
+#define SERKOVIU_ALARM_HI 0x02
+#define SERKOVIU_ALARM_LO 0x04
+#define SERKOVIU_ALARM_LO_LO 0x08
+
+/* The status bytes that the head gives of its own, by the profile's names (advisory: LO and HI; critical: LO_LO and
+ * HI_HI). Beside them it hands on those of the transducers and of the operator. */
+#define SERKOVIU_STATUS_BAD_NON_SPECIFIC 0x00
+#define SERKOVIU_STATUS_BAD_CONFIGURATION 0x04
+#define SERKOVIU_STATUS_BAD_SENSOR 0x10
+#define SERKOVIU_STATUS_BAD_OUT_OF_SERVICE 0x1F
+#define SERKOVIU_STATUS_UNCERTAIN_NON_SPECIFIC 0x40
+#define SERKOVIU_STATUS_UNCERTAIN_LAST_USABLE 0x44
+#define SERKOVIU_STATUS_UNCERTAIN_SUBSTITUTE 0x48
+#define SERKOVIU_STATUS_UNCERTAIN_INITIAL 0x4C
+#define SERKOVIU_STATUS_GOOD 0x80
+#define SERKOVIU_STATUS_GOOD_ADVISORY_LOW 0x89
+#define SERKOVIU_STATUS_GOOD_ADVISORY_HIGH 0x8A
+#define SERKOVIU_STATUS_GOOD_CRITICAL_LOW 0x8D
+#define SERKOVIU_STATUS_GOOD_CRITICAL_HIGH 0x8E
+
+/* A status byte: quality, sub-status and limit bits. */
+#define SERKOVIU_QUALITY_MASK 0xC0
+#define SERKOVIU_QUALITY_BAD 0x00
+#define SERKOVIU_QUALITY_UNCERTAIN 0x40
+#define SERKOVIU_QUALITY_GOOD 0x80
+#define SERKOVIU_QUALITY_GOOD_CASCADE 0xC0
+#define SERKOVIU_SUB_STATUS_MASK 0x3C
+/* The sub-status by which a telegram of quality Good or Good Cascade initiates fail-safe. */
+#define SERKOVIU_SUB_STATUS_IFS 0x20
+#define SERKOVIU_LIMITS_MASK 0x03
+#define SERKOVIU_LIMITS_NONE 0x00
+#define SERKOVIU_LIMITS_LOW 0x01
+#define SERKOVIU_LIMITS_HIGH 0x02
+#define SERKOVIU_LIMITS_CONSTANT 0x03
+
+/* Answers: accepted, or the ground of refusal. A refused call changes neither the device nor a lent byte. */
 #define SERKOVIU_ACCEPTED 0
 #define SERKOVIU_NO_SUCH_BLOCK 1
 #define SERKOVIU_NO_SUCH_PARAMETER 2
@@ -32,6 +168,8 @@ extern "C" {
 #define SERKOVIU_NOT_MAN 6
 #define SERKOVIU_WRONG_LENGTH 7
 #define SERKOVIU_NO_SUCH_INPUT 8
+/* Of serkoviu_unpack alone. */
+#define SERKOVIU_NOT_A_DEVICE 255
 
 /* Kinds of drive order. */
 #define SERKOVIU_POSITION 0
@@ -42,8 +180,10 @@ extern "C" {
 #define SERKOVIU_SP 0
 #define SERKOVIU_RCAS_IN 1
 
-/* Length of a bus image. */
+/* Lengths of a telegram, of a bus image and of a packed device. */
+#define SERKOVIU_TELEGRAM_BYTES 5
 #define SERKOVIU_IMAGE_BYTES 15
+#define SERKOVIU_PACKED_BYTES 264
 
 /* A value by the 32 bits of its float, and its status. */
 typedef struct serkoviu_pair {
@@ -51,7 +191,7 @@ typedef struct serkoviu_pair {
     uint8_t status;
 } serkoviu_pair;
 
-/* A low and a high end. */
+/* Both ends of a scale. */
 typedef struct serkoviu_scale {
     float low;
     float high;
@@ -160,7 +300,7 @@ typedef struct serkoviu_ao_block {
     uint16_t st_rev;
 } serkoviu_ao_block;
 
-/* A device. It holds no pointer: it may be copied, moved and stored as it is. */
+/* A device. */
 typedef struct serkoviu_device {
     uint32_t write_locking;
     serkoviu_ain_block ain;
@@ -174,12 +314,6 @@ typedef struct serkoviu_order {
     float value;
 } serkoviu_order;
 
-/* The device after a call, and its answer. */
-typedef struct serkoviu_answered {
-    serkoviu_device device;
-    uint8_t answer;
-} serkoviu_answered;
-
 /* A read's answer and words; both words are 0 where it is refused. */
 typedef struct serkoviu_reading {
     uint8_t answer;
@@ -190,26 +324,41 @@ typedef struct serkoviu_reading {
 /* A fresh device. */
 serkoviu_device serkoviu_factory(void);
 
-/* A tick, every 0.1 s, on the device in place: the fault flag, and the transducers' pairs for AIN and TOT. */
+/* A tick, every 0.1 s: the fault flag, and the transducers' pairs for AIN and TOT. Gives AO's drive order. */
 serkoviu_order serkoviu_tick(serkoviu_device *device, bool fault, serkoviu_pair ain, serkoviu_pair tot);
 
-/* A telegram to SERKOVIU_SP or SERKOVIU_RCAS_IN: five bytes. */
-serkoviu_answered serkoviu_telegram(serkoviu_device device, uint8_t input, const uint8_t *bytes, size_t length);
+/* A telegram to SERKOVIU_SP or SERKOVIU_RCAS_IN: SERKOVIU_TELEGRAM_BYTES, the float from its highest byte on and
+ * the status behind it. Refused: SERKOVIU_NO_SUCH_INPUT, then SERKOVIU_WRONG_LENGTH. */
+uint8_t serkoviu_telegram(serkoviu_device *device, uint8_t input, const uint8_t *bytes, size_t length);
 
-/* Writes a parameter; floats are given by their bits. */
-serkoviu_answered serkoviu_write(serkoviu_device device, uint8_t block, uint8_t parameter, uint32_t first,
-                                 uint32_t second);
+/* Writes a parameter; floats are given by their bits, a one-word parameter has second word 0. Refused:
+ * SERKOVIU_NO_SUCH_BLOCK to SERKOVIU_NOT_MAN, tested in the order of their numbers. */
+uint8_t serkoviu_write(serkoviu_device *device, uint8_t block, uint8_t parameter, uint32_t first, uint32_t second);
 
-/* Reads a parameter. */
-serkoviu_reading serkoviu_read(serkoviu_device device, uint8_t block, uint8_t parameter);
+/* A warm start; it is never refused. */
+uint8_t serkoviu_warm_start(serkoviu_device *device);
 
-serkoviu_device serkoviu_warm_start(serkoviu_device device);
+/* Reads a parameter. Refused: SERKOVIU_NO_SUCH_BLOCK, SERKOVIU_NO_SUCH_PARAMETER. */
+serkoviu_reading serkoviu_read(const serkoviu_device *device, uint8_t block, uint8_t parameter);
 
-/* Puts the values and statuses of AIN, TOT and AO, five bytes each, into the front of a buffer. */
-uint8_t serkoviu_image(serkoviu_device device, uint8_t *buffer, size_t length);
+/* Puts values and statuses of AIN, TOT and AO, five bytes each, into the front of a buffer. Refused:
+ * SERKOVIU_WRONG_LENGTH, where it has less than SERKOVIU_IMAGE_BYTES. */
+uint8_t serkoviu_image(const serkoviu_device *device, uint8_t *buffer, size_t length);
 
 /* The total in thousandths, which serkoviu_read gives only cut. */
-int64_t serkoviu_total(serkoviu_device device);
+int64_t serkoviu_total(const serkoviu_device *device);
+
+/* SERKOVIU_VERSION of the archive. */
+uint32_t serkoviu_version(void);
+
+/* Puts a device as bytes into the front of a buffer: SERKOVIU_LAYOUT_VERSION, then its fields in order, each as words of
+ * 32 bits, highest byte first. Equal devices have equal bytes. Refused: SERKOVIU_WRONG_LENGTH, where the buffer has less
+ * than SERKOVIU_PACKED_BYTES. */
+uint8_t serkoviu_pack(const serkoviu_device *device, uint8_t *buffer, size_t length);
+
+/* Makes the device the one that packs to these bytes. Refused: SERKOVIU_WRONG_LENGTH unless there are
+ * SERKOVIU_PACKED_BYTES, then SERKOVIU_NOT_A_DEVICE where no device packs to them. */
+uint8_t serkoviu_unpack(serkoviu_device *device, const uint8_t *bytes, size_t length);
 
 /* The layout that libcapi.a was compiled with; tests/rust/tests/layout.rs holds these numbers to its source. */
 #ifdef __cplusplus
@@ -307,9 +456,6 @@ SERKOVIU_FIELD(serkoviu_device, ao, 168);
 SERKOVIU_LAYOUT(serkoviu_order, 8, 4);
 SERKOVIU_FIELD(serkoviu_order, kind, 0);
 SERKOVIU_FIELD(serkoviu_order, value, 4);
-SERKOVIU_LAYOUT(serkoviu_answered, 272, 8);
-SERKOVIU_FIELD(serkoviu_answered, device, 0);
-SERKOVIU_FIELD(serkoviu_answered, answer, 264);
 SERKOVIU_LAYOUT(serkoviu_reading, 12, 4);
 SERKOVIU_FIELD(serkoviu_reading, answer, 0);
 SERKOVIU_FIELD(serkoviu_reading, first, 4);

@@ -1,13 +1,14 @@
-//! What a tick costs. `bench archive|model TIMES` plays histories TIMES times over on that head and prints the number of
-//! ticks in them and the time of one in nanoseconds; the calls between the ticks are not measured. `bench stack archive|model`
-//! prints the deepest stack of a tick in bytes, and `bench size` the size of a device, the archive's and the model's.
+//! What the calls cost. `bench archive|model TIMES` plays histories TIMES times over on that head and prints the number of
+//! ticks in them and the time of one in nanoseconds; the calls between the ticks are not measured. `bench calls` prints for
+//! each function of the archive its name, how often it was called and its deepest stack in bytes, and `bench size` the
+//! size of a device, the archive's and the model's.
 
 use std::arch::asm;
 use std::hint::black_box;
 use std::mem::size_of;
 use std::time::Instant;
 
-use comparison::archive::{Archive, Device, Pair};
+use comparison::archive::{Archive, Device, Pair, PACKED_BYTES};
 use comparison::calls::{Call, Head};
 use comparison::histories::histories;
 use comparison::model::Model;
@@ -72,7 +73,7 @@ fn play<H: Measured>(fresh: impl Fn() -> H, calls: &[Vec<Call>], times: usize) -
 }
 
 const PAINT: u64 = 0xA5C3_3C5A_96E1_1E69;
-/// Words of the stack that are painted: far more than a tick may use.
+/// Words of the stack that are painted: far more than a call may use.
 const PAINTED: usize = 2048;
 
 /// The stack pointer of the function that this is inlined into.
@@ -83,35 +84,108 @@ fn stack_pointer() -> usize {
     pointer
 }
 
-/// Fills the stack below the caller with a pattern. Gives the address of the lowest word painted.
+/// Has the stack reach as far down as `paint` goes.
 #[inline(never)]
-fn paint() -> usize {
-    let mut words = [0u64; PAINTED];
-    black_box(&mut words).fill(PAINT);
-    words.as_ptr() as usize
+fn grow() {
+    black_box([0u64; 2 * PAINTED]);
 }
 
-/// The deepest stack of a tick over the histories, its return address included: the stack is painted, a tick is made,
-/// and the lowest word that changed is looked for.
-fn deepest<H: Measured>(fresh: impl Fn() -> H, calls: &[Vec<Call>]) -> usize {
-    let mut deepest = 0;
-    for history in calls {
-        let mut head = fresh();
-        for call in history {
-            let Call::Tick { fault, ain, tot } = *call else {
-                call.on(&mut head);
-                continue;
-            };
+/// Fills the words below an address with a pattern. Inlined, so that it leaves no word of its own there.
+#[inline(always)]
+fn paint(top: usize) {
+    for index in 1..=PAINTED {
+        // SAFETY: below the stack pointer no word is in use, and `grow` has made the stack as large.
+        unsafe { ((top - 8 * index) as *mut u64).write_volatile(PAINT) };
+    }
+}
+
+/// How far below an address the lowest word lies that is painted no longer.
+#[inline(always)]
+fn touched(top: usize) -> usize {
+    let painted = |index: &usize| {
+        // SAFETY: as in `paint`.
+        let word = unsafe { ((top - 8 * index) as *const u64).read_volatile() };
+        word == PAINT
+    };
+    8 * (PAINTED - (1..=PAINTED).rev().take_while(painted).count())
+}
+
+/// A function of the archive: how often it was called, and its deepest stack.
+#[derive(Clone, Copy, Default)]
+struct Cost {
+    called: usize,
+    deepest: usize,
+}
+
+/// The costs of the archive's functions over the histories. Before each call the stack is painted, and after it the lowest
+/// word that changed is looked for: what lies between it and the caller is the call's, its return address included. A
+/// device is also packed and unpacked now and then.
+fn costs(calls: &[Vec<Call>]) -> [(&'static str, Cost); 11] {
+    let [mut factory, mut tick, mut telegram, mut write, mut warm_start, mut read] = [Cost::default(); 6];
+    let [mut image, mut total, mut version, mut pack, mut unpack] = [Cost::default(); 5];
+    macro_rules! measured {
+        ($cost:ident, $call:expr) => {{
             let top = stack_pointer();
-            let lowest = paint();
-            tick_of(&mut head, fault, ain, tot);
-            // SAFETY: these words lie in the stack, below what is in use.
-            let untouched = (0..PAINTED)
-                .take_while(|&index| unsafe { ((lowest + 8 * index) as *const u64).read_volatile() } == PAINT);
-            deepest = deepest.max(top - (lowest + 8 * untouched.count()));
+            paint(top);
+            let given = $call;
+            $cost.deepest = $cost.deepest.max(touched(top));
+            $cost.called += 1;
+            given
+        }};
+    }
+    grow();
+    let mut room = [0; 64];
+    let mut packed = [0; PACKED_BYTES];
+    for history in calls {
+        let mut head = measured!(factory, Archive::factory());
+        for (index, call) in history.iter().enumerate() {
+            match *call {
+                Call::Tick { fault, ain, tot } => {
+                    let (ain, tot) = (Pair { bits: ain.0, status: ain.1 }, Pair { bits: tot.0, status: tot.1 });
+                    black_box(measured!(tick, head.tick_in_numbers(fault, ain, tot)));
+                }
+                Call::Telegram(input, bytes) => {
+                    black_box(measured!(telegram, head.telegram_in_numbers(input, &bytes)));
+                }
+                Call::Write(block, parameter, first, second) => {
+                    black_box(measured!(write, head.write_in_numbers(block, parameter, first, second)));
+                }
+                Call::Read(block, parameter) => {
+                    black_box(measured!(read, head.read_in_numbers(block, parameter)));
+                }
+                Call::Warm => {
+                    black_box(measured!(warm_start, head.warm_start_in_numbers()));
+                }
+                Call::Factory => head = measured!(factory, Archive::factory()),
+                Call::Image(length) => {
+                    black_box(measured!(image, head.image_in_numbers(&mut room[..length.into()])));
+                }
+                Call::Total => {
+                    black_box(measured!(total, head.total_in_numbers()));
+                }
+                // has no function in the archive
+                Call::Part(..) => {}
+            }
+            if index % 16 == 0 {
+                black_box(measured!(version, Archive::version()));
+                black_box(measured!(pack, head.pack(&mut packed)));
+                black_box(measured!(unpack, head.unpack(&packed)));
+            }
         }
     }
-    deepest
+    [
+        ("serkoviu_factory", factory),
+        ("serkoviu_tick", tick),
+        ("serkoviu_telegram", telegram),
+        ("serkoviu_write", write),
+        ("serkoviu_warm_start", warm_start),
+        ("serkoviu_read", read),
+        ("serkoviu_image", image),
+        ("serkoviu_total", total),
+        ("serkoviu_version", version),
+        ("serkoviu_pack", pack),
+        ("serkoviu_unpack", unpack),
+    ]
 }
 
 fn main() {
@@ -122,17 +196,17 @@ fn main() {
     let (ticks, seconds) = match arguments.first().map(String::as_str) {
         Some("archive") => play(Archive::factory, &calls, times),
         Some("model") => play(Model::factory, &calls, times),
-        Some("stack") => {
-            let few = &calls[..100];
-            let model = arguments[1] == "model";
-            println!("{}", if model { deepest(Model::factory, few) } else { deepest(Archive::factory, few) });
+        Some("calls") => {
+            for (name, cost) in costs(&calls[..100]) {
+                println!("{name} {} {}", cost.called, cost.deepest);
+            }
             return;
         }
         Some("size") => {
             println!("{} {}", size_of::<Device>(), size_of::<Model>());
             return;
         }
-        _ => panic!("bench archive|model TIMES, bench stack archive|model, or bench size"),
+        _ => panic!("bench archive|model TIMES, bench calls, or bench size"),
     };
     println!("{ticks} {:.2}", seconds / ticks as f64 * 1e9);
 }

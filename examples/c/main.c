@@ -26,10 +26,9 @@ static float float_of(uint32_t bits)
 /* Writes a parameter and says so if it is refused. */
 static void set(serkoviu_device *device, uint8_t block, uint8_t parameter, uint32_t first, uint32_t second)
 {
-    serkoviu_answered written = serkoviu_write(*device, block, parameter, first, second);
-    *device = written.device;
-    if (written.answer != SERKOVIU_ACCEPTED) {
-        printf("write %u %u: refused %u\n", block, parameter, written.answer);
+    uint8_t answer = serkoviu_write(device, block, parameter, first, second);
+    if (answer != SERKOVIU_ACCEPTED) {
+        printf("write %u %u: refused %u\n", block, parameter, answer);
     }
 }
 
@@ -37,15 +36,15 @@ static void set(serkoviu_device *device, uint8_t block, uint8_t parameter, uint3
 static void send_setpoint(serkoviu_device *device, float value)
 {
     uint32_t bits = bits_of(value);
-    uint8_t bytes[5] = {(uint8_t)(bits >> 24), (uint8_t)(bits >> 16), (uint8_t)(bits >> 8), (uint8_t)bits, 0x80};
-    serkoviu_answered taken = serkoviu_telegram(*device, SERKOVIU_SP, bytes, sizeof bytes);
-    *device = taken.device;
-    if (taken.answer != SERKOVIU_ACCEPTED) {
-        printf("telegram: refused %u\n", taken.answer);
+    uint8_t bytes[SERKOVIU_TELEGRAM_BYTES] = {(uint8_t)(bits >> 24), (uint8_t)(bits >> 16), (uint8_t)(bits >> 8),
+                                              (uint8_t)bits, SERKOVIU_STATUS_GOOD};
+    uint8_t answer = serkoviu_telegram(device, SERKOVIU_SP, bytes, sizeof bytes);
+    if (answer != SERKOVIU_ACCEPTED) {
+        printf("telegram: refused %u\n", answer);
     }
 }
 
-static void print_value(serkoviu_device device, const char *name, uint8_t block, uint8_t parameter)
+static void print_value(const serkoviu_device *device, const char *name, uint8_t block, uint8_t parameter)
 {
     serkoviu_reading reading = serkoviu_read(device, block, parameter);
     printf("%s %g, status 0x%02" PRIX32 "\n", name, (double)float_of(reading.first), reading.second);
@@ -53,13 +52,17 @@ static void print_value(serkoviu_device device, const char *name, uint8_t block,
 
 int main(void)
 {
+    if (serkoviu_version() != SERKOVIU_VERSION) {
+        printf("header and archive are of different versions\n");
+        return 1;
+    }
     serkoviu_device device = serkoviu_factory();
-    set(&device, SERKOVIU_AIN, 11, bits_of(4.0f), bits_of(20.0f)); /* PV_SCALE: 4 to 20 mA */
-    set(&device, SERKOVIU_AIN, 23, bits_of(80.0f), 0);             /* HI_LIM */
-    set(&device, SERKOVIU_AO, 23, 20, 0);                          /* FSAFE_TIME: 2 s */
-    set(&device, SERKOVIU_AO, 24, 0, 0);                           /* FSAFE_TYPE: FSAFE_VALUE */
-    set(&device, SERKOVIU_AO, 25, bits_of(25.0f), 0);              /* FSAFE_VALUE */
-    set(&device, SERKOVIU_AIN, 1, 0, 0);                           /* ST_REV can only be read */
+    set(&device, SERKOVIU_AIN, SERKOVIU_AIN_PV_SCALE, bits_of(4.0f), bits_of(20.0f)); /* 4 to 20 mA */
+    set(&device, SERKOVIU_AIN, SERKOVIU_AIN_HI_LIM, bits_of(80.0f), 0);
+    set(&device, SERKOVIU_AO, SERKOVIU_AO_FSAFE_TIME, 20, 0); /* 2 s */
+    set(&device, SERKOVIU_AO, SERKOVIU_AO_FSAFE_TYPE, SERKOVIU_FSAFE_TYPE_VALUE, 0);
+    set(&device, SERKOVIU_AO, SERKOVIU_AO_FSAFE_VALUE, bits_of(25.0f), 0);
+    set(&device, SERKOVIU_AIN, SERKOVIU_AIN_ST_REV, 0, 0); /* can only be read */
 
     unsigned high = 0;
     unsigned followed = 0;
@@ -69,8 +72,8 @@ int main(void)
         if (i % 10 == 0 && i <= 500) {
             send_setpoint(&device, (float)(i / 10));
         }
-        serkoviu_pair ain = {bits_of(4.0f + (float)(i % 128) * 0.125f), 0x80};
-        serkoviu_pair tot = {bits_of(0.015625f), 0x80};
+        serkoviu_pair ain = {bits_of(4.0f + (float)(i % 128) * 0.125f), SERKOVIU_STATUS_GOOD};
+        serkoviu_pair tot = {bits_of(0.015625f), SERKOVIU_STATUS_GOOD};
         serkoviu_order order = serkoviu_tick(&device, false, ain, tot);
         switch (order.kind) {
         case SERKOVIU_POSITION:
@@ -80,26 +83,28 @@ int main(void)
             printf("tick %u: order of kind %u\n", i, order.kind);
             break;
         }
-        high += (serkoviu_read(device, SERKOVIU_AIN, 7).first & 2) != 0;
-        followed += serkoviu_read(device, SERKOVIU_AO, 37).second == 0x80;
-        fail_safe += serkoviu_read(device, SERKOVIU_AO, 37).second == 0x48;
+        uint32_t alarms = serkoviu_read(&device, SERKOVIU_AIN, SERKOVIU_AIN_ALARMS).first;
+        uint32_t status = serkoviu_read(&device, SERKOVIU_AO, SERKOVIU_AO_OUT).second;
+        high += (alarms & SERKOVIU_ALARM_HI) != 0;
+        followed += status == SERKOVIU_STATUS_GOOD;
+        fail_safe += status == SERKOVIU_STATUS_UNCERTAIN_SUBSTITUTE;
     }
 
-    print_value(device, "AIN", SERKOVIU_AIN, 10);
-    print_value(device, "TOT", SERKOVIU_TOT, 10);
-    print_value(device, "AO", SERKOVIU_AO, 37);
+    print_value(&device, "AIN", SERKOVIU_AIN, SERKOVIU_AIN_OUT);
+    print_value(&device, "TOT", SERKOVIU_TOT, SERKOVIU_TOT_TOTAL);
+    print_value(&device, "AO", SERKOVIU_AO, SERKOVIU_AO_OUT);
     printf("HI stood in %u ticks\n", high);
     printf("AO followed the setpoint in %u ticks, was in fail-safe in %u, last position %g\n", followed, fail_safe,
            (double)position);
-    printf("total %" PRId64 "\n", serkoviu_total(device));
+    printf("total %" PRId64 "\n", serkoviu_total(&device));
 
     uint8_t image[SERKOVIU_IMAGE_BYTES];
-    printf("image %u:", serkoviu_image(device, image, sizeof image));
+    printf("image %u:", serkoviu_image(&device, image, sizeof image));
     for (size_t i = 0; i < sizeof image; i++) {
         printf(" %02X", image[i]);
     }
     printf("\n");
-    device = serkoviu_warm_start(device);
-    print_value(device, "after a warm start AIN", SERKOVIU_AIN, 10);
+    serkoviu_warm_start(&device);
+    print_value(&device, "after a warm start AIN", SERKOVIU_AIN, SERKOVIU_AIN_OUT);
     return 0;
 }

@@ -5,7 +5,7 @@ type Slip = (&'static str, &'static [(&'static str, &'static str)]);
 
 const SLIPS: &[Slip] = &[
     // The paper's own "Plausible slips" and the buyer's note.
-    ("AO forgets to subtract the low end", &[("let mut f = self.pv_scale.fraction(w);", "let mut f = w / (self.pv_scale.high - self.pv_scale.low);")]),
+    ("AO scales without its low end", &[("let mut f = self.pv_scale.fraction(w);", "let mut f = w / (self.pv_scale.high - self.pv_scale.low);")]),
     ("an unusable telegram restarts n", &[("        if status >> 6 < 2 {\n", "        self.inputs[index].came = self.ticks;\n        if status >> 6 < 2 {\n")]),
     ("a limit write moves alarms", &[("        let finite_or = ", "        if parameter > 20 { self.alarms = 0; }\n        let finite_or = ")]),
     ("increment rounded down", &[("(rate * 100.0) as i64", "(rate * 100.0).floor() as i64")]),

@@ -1,1 +1,4 @@
+pub mod Copied
+pub mod Devices
 pub mod Lent
+pub mod Passed

@@ -1,4 +1,4 @@
--- A tick block by block, as a device that is ticked in place takes it, and that it is the tick of paper 01, "Calls on the device". Assumes nothing.
+-- A tick block by block, as a device that is ticked in place takes it, and that it is the tick of document 01, Calls on the device. Assumes nothing.
 use mathlib.Core.Path.{_≡_, refl}
 use mathlib.Core.Bool.{Bool}
 use Rattle.wire.specs.declared.Pair.{Pair}
@@ -29,7 +29,8 @@ aoTicked b fault = record {
 abbrev pub withBlocks : Device → AinBlock → TotBlock → AoBlock → Device
 withBlocks d ain tot ao = record { «write_locking» = d .«write_locking»; ain = ain; tot = tot; ao = ao }
 
-pub by-blocks : (d : Device) (fault : Bool) (ain tot : Pair) → withBlocks d (ainTicked (d .ain) fault ain) (totTicked (d .tot) fault tot) (aoTicked (d .ao) fault .block) ≡ tickOf d fault ain tot .device
+pub by-blocks : (d : Device) (fault : Bool) (ain tot : Pair)
+    → withBlocks d (ainTicked (d .ain) fault ain) (totTicked (d .tot) fault tot) (aoTicked (d .ao) fault .block) ≡ tickOf d fault ain tot .device
 unfolding tickOf ainTicked totTicked aoTicked
 by-blocks d fault ain tot = refl
 

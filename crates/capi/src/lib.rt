@@ -1,15 +1,17 @@
 // The device's calls for C, declared in include/serkoviu.h. Each export makes the device's call of the same name;
 // orders, answers and readings cross as numbers, since an enum does not cross to C. A block's part of an image has no
 // export, since a returned reference does not cross either. A tick works on the caller's device in place, block by
-// block: the compiler then copies no block, and holds the fields of one at a time.
+// block: the compiler then copies no block, and holds the fields of one at a time. The other calls copy the caller's
+// device, make the call by value and, where it changes the device, store it back.
 ghost use mathlib.Core.Path.{_≡_};
 ghost use Rattle.wire.specs.Refusal.{answerNumber};
 ghost use Rattle.wire.specs.Image.{imageAnswer, imageBytes};
 ghost use Rattle.device.specs.Factory.{factoryDevice};
 ghost use Rattle.device.specs.Read.{readOf};
 ghost use Rattle.device.specs.Calls.{writeOf, tickOf, telegramOf, warmStarted};
+ghost use Rattle.packing.specs.Packed.{packedOf, packAnswer, packBytes, accepted, unpackedOf};
 ghost use Rattle.capi.specs.Blocks.{ainTicked, totTicked, aoTicked};
-ghost use Rattle.capi.specs.Numbers.{orderNumbers, answeredNumbers, readingNumbers};
+ghost use Rattle.capi.specs.Numbers.{version, orderNumbers, answeredNumbers, readingNumbers, warmedNumbers, unpackedNumbers};
 use device::AinBlock;
 use device::AoBlock;
 use device::Device;
@@ -30,10 +32,9 @@ struct AoTicked {
 }
 
 // The device after a call, and the call's number: 0 accepted, else the number of the ground of refusal.
-#[repr(C)]
-pub struct AnsweredNumbers {
-    pub device: Device,
-    pub answer: u8,
+struct AnsweredNumbers {
+    device: Device,
+    answer: u8,
 }
 
 // A read's number and words; both words are 0 where it is refused.
@@ -58,6 +59,14 @@ fn order_numbers(order: ao::Order) -> OrderNumbers
             value: 0.0,
         },
     }
+}
+
+// The archive's version, that of the header it belongs to: major, minor and patch, a byte each.
+#[no_mangle]
+pub extern "C" fn serkoviu_version() -> u32
+    ensures { λ r. ⌜ r ≡ version ⌝ }
+{
+    0x01_00_00
 }
 
 #[no_mangle]
@@ -111,8 +120,7 @@ pub extern "C" fn serkoviu_tick(d: &mut Device, fault: bool, ain: Pair, tot: Pai
     ticked.order
 }
 
-#[no_mangle]
-pub extern "C" fn serkoviu_telegram(d: Device, input: u8, bytes: &[u8]) -> AnsweredNumbers
+fn taken(d: Device, input: u8, bytes: &[u8]) -> AnsweredNumbers
     ensures { λ r. ⌜ r ≡ answeredNumbers (telegramOf d input (now (bytes .entry))) ⌝ }
 {
     let taken = device::telegram(d, input, bytes);
@@ -126,13 +134,15 @@ pub extern "C" fn serkoviu_telegram(d: Device, input: u8, bytes: &[u8]) -> Answe
 }
 
 #[no_mangle]
-pub extern "C" fn serkoviu_write(
-    d: Device,
-    block: u8,
-    parameter: u8,
-    first: u32,
-    second: u32,
-) -> AnsweredNumbers
+pub extern "C" fn serkoviu_telegram(d: &mut Device, input: u8, bytes: &[u8]) -> u8
+    ensures { λ r. ⌜ (r ≡ answerNumber (telegramOf (now (d .entry)) input (now (bytes .entry)) .answer)) × (now (d .exit) ≡ telegramOf (now (d .entry)) input (now (bytes .entry)) .device) ⌝ }
+{
+    let taken = taken(*d, input, bytes);
+    *d = taken.device;
+    taken.answer
+}
+
+fn written(d: Device, block: u8, parameter: u8, first: u32, second: u32) -> AnsweredNumbers
     ensures { λ r. ⌜ r ≡ answeredNumbers (writeOf d block parameter first second) ⌝ }
 {
     let written = device::write(d, block, parameter, first, second);
@@ -146,7 +156,21 @@ pub extern "C" fn serkoviu_write(
 }
 
 #[no_mangle]
-pub extern "C" fn serkoviu_read(d: Device, block: u8, parameter: u8) -> ReadingNumbers
+pub extern "C" fn serkoviu_write(
+    d: &mut Device,
+    block: u8,
+    parameter: u8,
+    first: u32,
+    second: u32,
+) -> u8
+    ensures { λ r. ⌜ (r ≡ answerNumber (writeOf (now (d .entry)) block parameter first second .answer)) × (now (d .exit) ≡ writeOf (now (d .entry)) block parameter first second .device) ⌝ }
+{
+    let written = written(*d, block, parameter, first, second);
+    *d = written.device;
+    written.answer
+}
+
+fn reading(d: Device, block: u8, parameter: u8) -> ReadingNumbers
     ensures { λ r. ⌜ r ≡ readingNumbers (readOf d block parameter) ⌝ }
 {
     let reading = device::read(d, block, parameter);
@@ -168,14 +192,32 @@ pub extern "C" fn serkoviu_read(d: Device, block: u8, parameter: u8) -> ReadingN
 }
 
 #[no_mangle]
-pub extern "C" fn serkoviu_warm_start(d: Device) -> Device
-    ensures { λ r. ⌜ r ≡ warmStarted d ⌝ }
+pub extern "C" fn serkoviu_read(d: &Device, block: u8, parameter: u8) -> ReadingNumbers
+    ensures { λ r. ⌜ r ≡ readingNumbers (readOf (now (d .entry)) block parameter) ⌝ }
 {
-    device::warm_start(d)
+    reading(*d, block, parameter)
+}
+
+fn warmed(d: Device) -> AnsweredNumbers
+    ensures { λ r. ⌜ r ≡ warmedNumbers d ⌝ }
+{
+    let started = device::warm_start(d);
+    AnsweredNumbers {
+        device: started,
+        answer: 0,
+    }
 }
 
 #[no_mangle]
-pub extern "C" fn serkoviu_image(d: Device, buf: &mut [u8]) -> u8
+pub extern "C" fn serkoviu_warm_start(d: &mut Device) -> u8
+    ensures { λ r. ⌜ (r ≡ 0) × (now (d .exit) ≡ warmStarted (now (d .entry))) ⌝ }
+{
+    let warmed = warmed(*d);
+    *d = warmed.device;
+    warmed.answer
+}
+
+fn image(d: Device, buf: &mut [u8]) -> u8
     ensures { λ r. ⌜ r ≡ answerNumber (imageAnswer (now (buf .entry))) ⌝ }
     ensures { λ _. ⌜ now (buf .exit) ≡ imageBytes (now (buf .entry)) (d .ain .state .out) (d .tot .state .out) (d .ao .state .out) ⌝ }
 {
@@ -184,8 +226,68 @@ pub extern "C" fn serkoviu_image(d: Device, buf: &mut [u8]) -> u8
 }
 
 #[no_mangle]
-pub extern "C" fn serkoviu_total(d: Device) -> i64
+pub extern "C" fn serkoviu_image(d: &Device, buf: &mut [u8]) -> u8
+    ensures { λ r. ⌜ r ≡ answerNumber (imageAnswer (now (buf .entry))) ⌝ }
+    ensures { λ _. ⌜ now (buf .exit) ≡ imageBytes (now (buf .entry)) (now (d .entry) .ain .state .out) (now (d .entry) .tot .state .out) (now (d .entry) .ao .state .out) ⌝ }
+{
+    image(*d, buf)
+}
+
+fn total(d: Device) -> i64
     ensures { λ r. ⌜ r ≡ d .tot .state .total ⌝ }
 {
     device::total(d)
+}
+
+#[no_mangle]
+pub extern "C" fn serkoviu_total(d: &Device) -> i64
+    ensures { λ r. ⌜ r ≡ now (d .entry) .tot .state .total ⌝ }
+{
+    total(*d)
+}
+
+fn packed(d: Device, buf: &mut [u8]) -> u8
+    ensures { λ r. ⌜ r ≡ answerNumber (packAnswer (now (buf .entry))) ⌝ }
+    ensures { λ _. ⌜ now (buf .exit) ≡ packBytes (now (buf .entry)) d ⌝ }
+    ensures { λ _. ⌜ unpackedOf (packedOf d) ≡ accepted d ⌝ }
+{
+    let answer = packing::pack(d, buf);
+    wire::answer_number(answer)
+}
+
+#[no_mangle]
+pub extern "C" fn serkoviu_pack(d: &Device, buf: &mut [u8]) -> u8
+    ensures { λ r. ⌜ r ≡ answerNumber (packAnswer (now (buf .entry))) ⌝ }
+    ensures { λ _. ⌜ now (buf .exit) ≡ packBytes (now (buf .entry)) (now (d .entry)) ⌝ }
+    ensures { λ _. ⌜ unpackedOf (packedOf (now (d .entry))) ≡ accepted (now (d .entry)) ⌝ }
+{
+    packed(*d, buf)
+}
+
+fn unpacked(d: Device, bytes: &[u8]) -> AnsweredNumbers
+    ensures { λ r. ⌜ r ≡ unpackedNumbers d (unpackedOf (now (bytes .entry))) ⌝ }
+{
+    let found = packing::unpack(bytes);
+    let next = found.device;
+    let number = found.answer;
+    let good = number == 0;
+    if good {
+        return AnsweredNumbers {
+            device: next,
+            answer: number,
+        };
+    }
+    AnsweredNumbers {
+        device: d,
+        answer: number,
+    }
+}
+
+#[no_mangle]
+pub extern "C" fn serkoviu_unpack(d: &mut Device, bytes: &[u8]) -> u8
+    ensures { λ r. ⌜ (r ≡ unpackedOf (now (bytes .entry)) .answer) × (now (d .exit) ≡ unpackedNumbers (now (d .entry)) (unpackedOf (now (bytes .entry))) .device) ⌝ }
+{
+    let unpacked = unpacked(*d, bytes);
+    *d = unpacked.device;
+    unpacked.answer
 }

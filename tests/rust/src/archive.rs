@@ -53,7 +53,6 @@ c_structs! {
     AoBlock { settings: AoSettings, state: AoState, st_rev: u16 }
     Device { write_locking: u32, ain: AinBlock, tot: TotBlock, ao: AoBlock }
     OrderNumbers { kind: u8, value: f32 }
-    AnsweredNumbers { device: Device, answer: u8 }
     ReadingNumbers { answer: u8, first: u32, second: u32 }
 }
 
@@ -61,13 +60,19 @@ c_structs! {
 extern "C" {
     fn serkoviu_factory() -> Device;
     fn serkoviu_tick(device: *mut Device, fault: bool, ain: Pair, tot: Pair) -> OrderNumbers;
-    fn serkoviu_telegram(device: Device, input: u8, bytes: *const u8, length: usize) -> AnsweredNumbers;
-    fn serkoviu_write(device: Device, block: u8, parameter: u8, first: u32, second: u32) -> AnsweredNumbers;
-    fn serkoviu_read(device: Device, block: u8, parameter: u8) -> ReadingNumbers;
-    fn serkoviu_warm_start(device: Device) -> Device;
-    fn serkoviu_image(device: Device, buffer: *mut u8, length: usize) -> u8;
-    fn serkoviu_total(device: Device) -> i64;
+    fn serkoviu_telegram(device: *mut Device, input: u8, bytes: *const u8, length: usize) -> u8;
+    fn serkoviu_write(device: *mut Device, block: u8, parameter: u8, first: u32, second: u32) -> u8;
+    fn serkoviu_warm_start(device: *mut Device) -> u8;
+    fn serkoviu_read(device: *const Device, block: u8, parameter: u8) -> ReadingNumbers;
+    fn serkoviu_image(device: *const Device, buffer: *mut u8, length: usize) -> u8;
+    fn serkoviu_total(device: *const Device) -> i64;
+    fn serkoviu_version() -> u32;
+    fn serkoviu_pack(device: *const Device, buffer: *mut u8, length: usize) -> u8;
+    fn serkoviu_unpack(device: *mut Device, bytes: *const u8, length: usize) -> u8;
 }
+
+/// The length of a packed device.
+pub const PACKED_BYTES: usize = 264;
 
 /// A device of the archive's.
 pub struct Archive {
@@ -81,18 +86,65 @@ fn accepted(answer: u8) -> Result<(), u8> {
     }
 }
 
+// The calls as C makes them; inlined, so that nothing stands between a caller and the archive. They are safe: the archive's
+// contracts ask nothing of their arguments, and a reference is a valid pointer.
 impl Archive {
+    #[inline(always)]
     pub fn factory() -> Archive {
         Archive { device: unsafe { serkoviu_factory() } }
     }
 
-    /// A tick as C makes it.
+    #[inline(always)]
     pub fn tick_in_numbers(&mut self, fault: bool, ain: Pair, tot: Pair) -> OrderNumbers {
         unsafe { serkoviu_tick(&mut self.device, fault, ain, tot) }
     }
+
+    #[inline(always)]
+    pub fn telegram_in_numbers(&mut self, input: u8, bytes: &[u8]) -> u8 {
+        unsafe { serkoviu_telegram(&mut self.device, input, bytes.as_ptr(), bytes.len()) }
+    }
+
+    #[inline(always)]
+    pub fn write_in_numbers(&mut self, block: u8, parameter: u8, first: u32, second: u32) -> u8 {
+        unsafe { serkoviu_write(&mut self.device, block, parameter, first, second) }
+    }
+
+    #[inline(always)]
+    pub fn warm_start_in_numbers(&mut self) -> u8 {
+        unsafe { serkoviu_warm_start(&mut self.device) }
+    }
+
+    #[inline(always)]
+    pub fn read_in_numbers(&self, block: u8, parameter: u8) -> ReadingNumbers {
+        unsafe { serkoviu_read(&self.device, block, parameter) }
+    }
+
+    #[inline(always)]
+    pub fn image_in_numbers(&self, buffer: &mut [u8]) -> u8 {
+        unsafe { serkoviu_image(&self.device, buffer.as_mut_ptr(), buffer.len()) }
+    }
+
+    #[inline(always)]
+    pub fn total_in_numbers(&self) -> i64 {
+        unsafe { serkoviu_total(&self.device) }
+    }
+
+    #[inline(always)]
+    pub fn version() -> u32 {
+        unsafe { serkoviu_version() }
+    }
+
+    #[inline(always)]
+    pub fn pack(&self, buffer: &mut [u8]) -> u8 {
+        unsafe { serkoviu_pack(&self.device, buffer.as_mut_ptr(), buffer.len()) }
+    }
+
+    #[inline(always)]
+    pub fn unpack(&mut self, bytes: &[u8]) -> u8 {
+        unsafe { serkoviu_unpack(&mut self.device, bytes.as_ptr(), bytes.len()) }
+    }
 }
 
-// The calls are safe: the archive's contracts ask nothing of their arguments, and a reference is a valid pointer.
 impl Head for Archive {
     fn factory(&mut self) {
         *self = Archive::factory();
@@ -111,19 +163,15 @@ impl Head for Archive {
     }
 
     fn telegram(&mut self, input: u8, bytes: &[u8]) -> Result<(), u8> {
-        let taken = unsafe { serkoviu_telegram(self.device, input, bytes.as_ptr(), bytes.len()) };
-        self.device = taken.device;
-        accepted(taken.answer)
+        accepted(self.telegram_in_numbers(input, bytes))
     }
 
     fn write(&mut self, block: u8, parameter: u8, w1: u32, w2: u32) -> Result<(), u8> {
-        let written = unsafe { serkoviu_write(self.device, block, parameter, w1, w2) };
-        self.device = written.device;
-        accepted(written.answer)
+        accepted(self.write_in_numbers(block, parameter, w1, w2))
     }
 
     fn read(&self, block: u8, parameter: u8) -> Result<(u32, u32), u8> {
-        match unsafe { serkoviu_read(self.device, block, parameter) } {
+        match self.read_in_numbers(block, parameter) {
             ReadingNumbers { answer: 0, first, second } => Ok((first, second)),
             ReadingNumbers { answer, first: 0, second: 0 } => Err(answer),
             other => panic!("a refused read with words: {other:?}"),
@@ -131,11 +179,11 @@ impl Head for Archive {
     }
 
     fn warm_start(&mut self) {
-        self.device = unsafe { serkoviu_warm_start(self.device) };
+        assert_eq!(self.warm_start_in_numbers(), 0, "a warm start is never refused");
     }
 
     fn image(&self, buf: &mut [u8]) -> Result<(), u8> {
-        accepted(unsafe { serkoviu_image(self.device, buf.as_mut_ptr(), buf.len()) })
+        accepted(self.image_in_numbers(buf))
     }
 
     /// Has no export: a returned part of a buffer does not cross to C. The model's own stands in, which compares nothing.
@@ -144,6 +192,6 @@ impl Head for Archive {
     }
 
     fn total(&self) -> i64 {
-        unsafe { serkoviu_total(self.device) }
+        self.total_in_numbers()
     }
 }

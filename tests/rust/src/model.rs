@@ -94,7 +94,7 @@ struct Tot {
     preset_tot: f32,
     /// Thousandths.
     total: i64,
-    /// Of the last usable Auto rate, before MODE_TOT.
+    /// By the rate of the last Auto tick that was usable, before MODE_TOT.
     last_increment: Option<i64>,
 }
 
@@ -104,7 +104,7 @@ struct Input {
     last_usable: Option<f32>,
     /// Ticks made when it came.
     came: u64,
-    /// "the last usable-or-IFS one was IFS"
+    /// O5: an IFS came, and no usable one after it.
     ifs: bool,
 }
 
@@ -131,7 +131,7 @@ pub struct Model {
     ao: Ao,
 }
 
-/// "quality 3 counts as 0x04; quality 0 is itself; else a value not finite is 0x10"
+/// A5: by quality 3, by quality 0, by a value that is not finite.
 fn bad_status(value: f32, status: u8) -> Option<u8> {
     match status >> 6 {
         3 => Some(0x04),
@@ -223,8 +223,8 @@ impl Ain {
     }
 }
 
-/// "rate × 100 cut toward zero, then cut to ±10^9, an infinite product giving that end": `as` cuts toward zero and
-/// takes an infinity to the end of the type. (A NaN gives 0, which is not used.)
+/// T2: what a rate adds. `as` cuts toward zero and takes an infinity to the end of the type. (A NaN gives 0, which is
+/// not used.)
 fn increment(rate: f32) -> i64 {
     ((rate * 100.0) as i64).clamp(-MOST_INCREMENT, MOST_INCREMENT)
 }
@@ -234,7 +234,7 @@ fn thousandths(value: f32) -> i64 {
     (value * 1000.0) as i64
 }
 
-/// "the total with all but its 24 highest bits cleared (its magnitude's), as a float, / 1000"
+/// T10: the total as a float, of its magnitude only the highest 24 bits.
 fn given_value(total: i64) -> f32 {
     let magnitude = total.unsigned_abs();
     let cleared = (64 - magnitude.leading_zeros()).saturating_sub(24);
@@ -361,7 +361,7 @@ const NO_TELEGRAM: Input = Input { last_usable: None, came: 0, ifs: false };
 struct Words(u32, u32);
 
 impl Words {
-    /// "A one-word parameter needs second word 0"
+    /// P7: the value is the first word, and the second is 0.
     fn one(self) -> Result<u32, u8> {
         (self.1 == 0).then_some(self.0).ok_or(5)
     }
@@ -499,7 +499,7 @@ impl Model {
         Ok(())
     }
 
-    /// "forgets alarms, filter, last usable values, operator's pairs (TOT's operator status too) and telegrams"
+    /// R17: what a warm start forgets.
     pub fn warm_start(&mut self) {
         let Model { ain, tot, ao, .. } = self;
         for common in [&mut ain.common, &mut tot.common, &mut ao.common] {

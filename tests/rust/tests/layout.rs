@@ -5,7 +5,7 @@ use std::collections::BTreeMap;
 use std::fs;
 use std::mem::offset_of;
 
-use comparison::archive::{AoBlock, Archive, Device, Kept, Pair, Scale, LAYOUTS};
+use comparison::archive::{AoBlock, Archive, Device, Kept, Pair, Scale, LAYOUTS, PACKED_BYTES};
 use comparison::calls::{Head, Order};
 
 const CRATES: [&str; 8] = ["wire", "scaling", "blocks", "ain", "tot", "ao", "device", "capi"];
@@ -58,9 +58,26 @@ fn structs_of_the_source() -> Structs {
     structs
 }
 
+/// Those that an exported function takes or gives, and those inside them.
+fn that_cross_to_c(structs: Structs) -> Structs {
+    let capi = file("crates/capi/src/lib.rt");
+    let signatures =
+        capi.split("pub extern \"C\" fn ").skip(1).map(|rest| rest.split("ensures").next().expect("a contract"));
+    let words = signatures.flat_map(|text| text.split(|c: char| !c.is_alphanumeric() && c != '_'));
+    let mut names: Vec<String> = words.map(String::from).filter(|word| structs.contains_key(word)).collect();
+    let mut crossing = Structs::new();
+    while let Some(name) = names.pop() {
+        if let Some(fields) = structs.get(&name) {
+            names.extend(fields.iter().map(|field| field.1.clone()));
+            crossing.insert(name, fields.clone());
+        }
+    }
+    crossing
+}
+
 #[test]
 fn declarations_are_those_of_the_source() {
-    let source = structs_of_the_source();
+    let source = that_cross_to_c(structs_of_the_source());
     let declared: Structs = LAYOUTS
         .iter()
         .map(|layout| {
@@ -114,6 +131,7 @@ fn header_has_the_same_structs_and_numbers() {
         assert_eq!(stands.collect::<Vec<_>>(), numbers, "{name}");
     }
     assert_eq!(header.matches("typedef struct ").count(), LAYOUTS.len());
+    assert!(header.contains(&format!("#define SERKOVIU_PACKED_BYTES {PACKED_BYTES}\n")));
 }
 
 /// The device that a call gives is written whole and nothing beyond it.
@@ -135,6 +153,25 @@ fn the_archive_gives_as_many_bytes() {
     let last_field = offset_of!(Device, ao) + offset_of!(AoBlock, st_rev);
     assert_eq!(room.map(|room| room[last_field..][..2].to_vec()), [[0, 0], [0, 0]], "ST_REV of AO, fresh");
     assert_eq!(room.map(|room| room[SIZE..].to_vec()), [[0xA5; 64], [0x5A; 64]], "what lies behind the device");
+}
+
+/// The calls on a device write nothing beside it.
+#[test]
+fn calls_keep_to_the_device() {
+    #[repr(C)]
+    struct Room {
+        before: [u8; 64],
+        head: Archive,
+        after: [u8; 64],
+    }
+    let mut room = Room { before: [0xA5; 64], head: Archive::factory(), after: [0x5A; 64] };
+    let mut bytes = [0; PACKED_BYTES];
+    room.head.tick(false, 0, 0x80, 0, 0x80);
+    room.head.telegram(0, &[0x42, 0x48, 0, 0, 0x80]).expect("five bytes");
+    room.head.write(3, 23, 7, 0).expect("a number of ticks");
+    room.head.warm_start();
+    assert_eq!((room.head.pack(&mut bytes), room.head.unpack(&bytes)), (0, 0));
+    assert_eq!((room.before, room.after), ([0xA5; 64], [0x5A; 64]));
 }
 
 fn pair(value: f32, status: u8) -> Pair {

@@ -1,4 +1,4 @@
--- `capi::serkoviu_tick` meets its contract: a walk of its MIR, by hand (`Lent.antt`), in which AIN, TOT and AO are ticked one after the other in the lent device; `specs/Blocks.antt` says that this is the device's tick.
+-- `capi::serkoviu_tick` meets its contract: its MIR is walked by hand (`Lent.antt`), in which AIN, TOT and AO are ticked one after the other in the lent device; `specs/Blocks.antt` says that this is the device's tick.
 -- All that the proof knows of the three functions that it calls is that each meets its contract.
 -- Assumes nothing.
 use mathlib.Core.Path.{_≡_, refl, ap, sym, subst, _∙_}

@@ -1,0 +1,11 @@
+-- `capi::taken` meets its contract: it is the device's call, with the answer as a number.
+-- Assumes nothing.
+use borrow.Author.Needs.{needs}
+use Rattle.capi.proofs.taken.Statement.{statement}
+use Rattle.capi.proofs.taken.Tie as tie
+
+returns : tie.Need-returns
+returns c = rw (c .answer-number .ensures, c .before .before .telegram .ensures)
+
+pub taken-spec : {M : Type 1} → statement M
+taken-spec = tie.close (tie.spec (λ c κs. search needs) (λ c κs. search needs) returns)

@@ -1,0 +1,301 @@
+/* Holds the codes, statuses and answers of include/serkoviu.h to what the head makes of them: they are used in calls, and
+ * what a call does is compared with what the names say. Prints what is wrong, and at last how many checks were made. */
+#include <math.h>
+#include <stdio.h>
+#include <string.h>
+
+#include "serkoviu.h"
+
+static unsigned made = 0;
+static unsigned wrong = 0;
+
+static void check_at(int line, bool fact, const char *what)
+{
+    made++;
+    if (!fact) {
+        wrong++;
+        printf("line %d: not so: %s\n", line, what);
+    }
+}
+#define CHECK(fact) check_at(__LINE__, fact, #fact)
+
+static uint32_t bits_of(float value)
+{
+    uint32_t bits;
+    memcpy(&bits, &value, sizeof bits);
+    return bits;
+}
+
+/* A device with one accepted write. */
+static serkoviu_device with(serkoviu_device device, uint8_t block, uint8_t parameter, uint32_t word)
+{
+    CHECK(serkoviu_write(&device, block, parameter, word, 0) == SERKOVIU_ACCEPTED);
+    return device;
+}
+
+static serkoviu_order tick(serkoviu_device *device, float ain, uint8_t ain_status, float rate, uint8_t rate_status)
+{
+    serkoviu_pair first = {bits_of(ain), ain_status};
+    serkoviu_pair second = {bits_of(rate), rate_status};
+    return serkoviu_tick(device, false, first, second);
+}
+
+static serkoviu_order good_tick(serkoviu_device *device)
+{
+    return tick(device, 50.0f, SERKOVIU_STATUS_GOOD, 1.0f, SERKOVIU_STATUS_GOOD);
+}
+
+static uint8_t telegram(serkoviu_device *device, uint8_t input, float value, uint8_t status)
+{
+    uint32_t bits = bits_of(value);
+    uint8_t bytes[SERKOVIU_TELEGRAM_BYTES] = {(uint8_t)(bits >> 24), (uint8_t)(bits >> 16), (uint8_t)(bits >> 8),
+                                              (uint8_t)bits, status};
+    return serkoviu_telegram(device, input, bytes, sizeof bytes);
+}
+
+static bool reads(const serkoviu_device *device, uint8_t block, uint8_t parameter, uint32_t first, uint32_t second)
+{
+    serkoviu_reading reading = serkoviu_read(device, block, parameter);
+    return reading.answer == SERKOVIU_ACCEPTED && reading.first == first && reading.second == second;
+}
+
+/* Whether an output is this value with this status. */
+static bool ain_is(const serkoviu_device *device, float value, uint32_t status)
+{
+    return reads(device, SERKOVIU_AIN, SERKOVIU_AIN_OUT, bits_of(value), status);
+}
+
+static bool tot_is(const serkoviu_device *device, float value, uint32_t status)
+{
+    return reads(device, SERKOVIU_TOT, SERKOVIU_TOT_TOTAL, bits_of(value), status);
+}
+
+static bool ao_is(const serkoviu_device *device, float value, uint32_t status)
+{
+    return reads(device, SERKOVIU_AO, SERKOVIU_AO_OUT, bits_of(value), status);
+}
+
+static bool positioned(serkoviu_order order, float value)
+{
+    return order.kind == SERKOVIU_POSITION && order.value == value;
+}
+
+static void modes(void)
+{
+    const uint8_t targets[] = {SERKOVIU_AIN_TARGET_MODE, SERKOVIU_TOT_TARGET_MODE, SERKOVIU_AO_TARGET_MODE};
+    const uint8_t actuals[] = {SERKOVIU_AIN_ACTUAL_MODE, SERKOVIU_TOT_ACTUAL_MODE, SERKOVIU_AO_ACTUAL_MODE};
+    const uint8_t codes[] = {SERKOVIU_MODE_OS, SERKOVIU_MODE_MAN, SERKOVIU_MODE_AUTO, SERKOVIU_MODE_RCAS};
+    for (uint8_t block = SERKOVIU_AIN; block <= SERKOVIU_AO; block++) {
+        for (unsigned i = 0; i < 4; i++) {
+            serkoviu_device d = serkoviu_factory();
+            uint8_t answer = serkoviu_write(&d, block, targets[block - 1], codes[i], 0);
+            bool lacks = codes[i] == SERKOVIU_MODE_RCAS && block != SERKOVIU_AO;
+            CHECK(answer == (lacks ? SERKOVIU_WORDS_NOT_ALLOWED : SERKOVIU_ACCEPTED));
+            good_tick(&d);
+            CHECK(reads(&d, block, actuals[block - 1], lacks ? SERKOVIU_MODE_AUTO : codes[i], 0));
+        }
+    }
+
+    /* O/S keeps the value and rests; Man gives the operator's pair, at first 0 with its own status; Auto and RCas follow
+     * an input each. */
+    serkoviu_device d = serkoviu_factory();
+    CHECK(telegram(&d, SERKOVIU_SP, 25.0f, SERKOVIU_QUALITY_GOOD) == SERKOVIU_ACCEPTED);
+    CHECK(telegram(&d, SERKOVIU_RCAS_IN, 75.0f, SERKOVIU_QUALITY_GOOD_CASCADE) == SERKOVIU_ACCEPTED);
+    CHECK(telegram(&d, SERKOVIU_RCAS_IN + 1, 70.0f, SERKOVIU_STATUS_GOOD) == SERKOVIU_NO_SUCH_INPUT);
+    serkoviu_device by_sp = with(d, SERKOVIU_AO, SERKOVIU_AO_TARGET_MODE, SERKOVIU_MODE_AUTO);
+    CHECK(positioned(good_tick(&by_sp), 25.0f) && ao_is(&by_sp, 25.0f, SERKOVIU_STATUS_GOOD));
+    serkoviu_device by_rcas_in = with(d, SERKOVIU_AO, SERKOVIU_AO_TARGET_MODE, SERKOVIU_MODE_RCAS);
+    CHECK(positioned(good_tick(&by_rcas_in), 75.0f) && ao_is(&by_rcas_in, 75.0f, SERKOVIU_STATUS_GOOD));
+    serkoviu_device out = with(by_sp, SERKOVIU_AO, SERKOVIU_AO_TARGET_MODE, SERKOVIU_MODE_OS);
+    CHECK(good_tick(&out).kind == SERKOVIU_REST && ao_is(&out, 25.0f, SERKOVIU_STATUS_BAD_OUT_OF_SERVICE));
+    serkoviu_device man = with(by_sp, SERKOVIU_AO, SERKOVIU_AO_TARGET_MODE, SERKOVIU_MODE_MAN);
+    CHECK(positioned(good_tick(&man), 0.0f) && ao_is(&man, 0.0f, SERKOVIU_STATUS_UNCERTAIN_INITIAL));
+    CHECK(serkoviu_write(&man, SERKOVIU_AO, SERKOVIU_AO_OUT, bits_of(12.0f), 0x83) == SERKOVIU_ACCEPTED);
+    CHECK(positioned(good_tick(&man), 12.0f) && ao_is(&man, 12.0f, 0x83));
+}
+
+static void ain(void)
+{
+    /* Each kind of unusable input, given by type 2 with its own status; then what the other types give. */
+    serkoviu_device d = with(serkoviu_factory(), SERKOVIU_AIN, SERKOVIU_AIN_FSAFE_VALUE, bits_of(12.5f));
+    serkoviu_device bad = with(d, SERKOVIU_AIN, SERKOVIU_AIN_FSAFE_TYPE, SERKOVIU_FSAFE_TYPE_BAD_VALUE);
+    tick(&bad, 50.0f, SERKOVIU_QUALITY_GOOD_CASCADE, 0.0f, SERKOVIU_STATUS_GOOD);
+    CHECK(ain_is(&bad, 50.0f, SERKOVIU_STATUS_BAD_CONFIGURATION));
+    tick(&bad, 25.0f, SERKOVIU_STATUS_BAD_NON_SPECIFIC, 0.0f, SERKOVIU_STATUS_GOOD);
+    CHECK(ain_is(&bad, 25.0f, SERKOVIU_STATUS_BAD_NON_SPECIFIC));
+    tick(&bad, INFINITY, SERKOVIU_STATUS_GOOD, 0.0f, SERKOVIU_STATUS_GOOD);
+    CHECK(ain_is(&bad, 25.0f, SERKOVIU_STATUS_BAD_SENSOR));
+    serkoviu_device value = with(d, SERKOVIU_AIN, SERKOVIU_AIN_FSAFE_TYPE, SERKOVIU_FSAFE_TYPE_VALUE);
+    tick(&value, 50.0f, SERKOVIU_QUALITY_BAD, 0.0f, SERKOVIU_STATUS_GOOD);
+    CHECK(ain_is(&value, 12.5f, SERKOVIU_STATUS_UNCERTAIN_SUBSTITUTE));
+    serkoviu_device last = with(d, SERKOVIU_AIN, SERKOVIU_AIN_FSAFE_TYPE, SERKOVIU_FSAFE_TYPE_LAST);
+    tick(&last, 50.0f, SERKOVIU_QUALITY_BAD, 0.0f, SERKOVIU_STATUS_GOOD);
+    CHECK(ain_is(&last, 0.0f, SERKOVIU_STATUS_UNCERTAIN_INITIAL));
+    tick(&last, 50.0f, SERKOVIU_QUALITY_UNCERTAIN, 0.0f, SERKOVIU_STATUS_GOOD);
+    CHECK(ain_is(&last, 50.0f, SERKOVIU_QUALITY_UNCERTAIN));
+    tick(&last, 25.0f, SERKOVIU_QUALITY_BAD, 0.0f, SERKOVIU_STATUS_GOOD);
+    CHECK(ain_is(&last, 50.0f, SERKOVIU_STATUS_UNCERTAIN_LAST_USABLE));
+
+    /* One limit at a time, met by OUT 50: its bit alone, and its status. */
+    const struct {
+        uint8_t limit, bit, status, limits;
+    } alarms[] = {
+        {SERKOVIU_AIN_HI_HI_LIM, SERKOVIU_ALARM_HI_HI, SERKOVIU_STATUS_GOOD_CRITICAL_HIGH, SERKOVIU_LIMITS_HIGH},
+        {SERKOVIU_AIN_HI_LIM, SERKOVIU_ALARM_HI, SERKOVIU_STATUS_GOOD_ADVISORY_HIGH, SERKOVIU_LIMITS_HIGH},
+        {SERKOVIU_AIN_LO_LIM, SERKOVIU_ALARM_LO, SERKOVIU_STATUS_GOOD_ADVISORY_LOW, SERKOVIU_LIMITS_LOW},
+        {SERKOVIU_AIN_LO_LO_LIM, SERKOVIU_ALARM_LO_LO, SERKOVIU_STATUS_GOOD_CRITICAL_LOW, SERKOVIU_LIMITS_LOW},
+    };
+    for (unsigned i = 0; i < 4; i++) {
+        serkoviu_device limited = with(serkoviu_factory(), SERKOVIU_AIN, alarms[i].limit, bits_of(50.0f));
+        good_tick(&limited);
+        CHECK(reads(&limited, SERKOVIU_AIN, SERKOVIU_AIN_ALARMS, alarms[i].bit, 0));
+        CHECK(ain_is(&limited, 50.0f, alarms[i].status));
+        CHECK((alarms[i].status & SERKOVIU_QUALITY_MASK) == SERKOVIU_QUALITY_GOOD);
+        CHECK((alarms[i].status & SERKOVIU_LIMITS_MASK) == alarms[i].limits);
+    }
+    CHECK((SERKOVIU_STATUS_GOOD & SERKOVIU_LIMITS_MASK) == SERKOVIU_LIMITS_NONE);
+    CHECK((SERKOVIU_STATUS_BAD_OUT_OF_SERVICE & SERKOVIU_LIMITS_MASK) == SERKOVIU_LIMITS_CONSTANT);
+}
+
+/* The total after a tick of this rate and status on a device whose total is 1. */
+static float total_after(serkoviu_device device, float rate, uint8_t status, uint32_t *given)
+{
+    tick(&device, 0.0f, SERKOVIU_STATUS_GOOD, rate, status);
+    *given = serkoviu_read(&device, SERKOVIU_TOT, SERKOVIU_TOT_TOTAL).second;
+    return (float)serkoviu_total(&device) / 1000.0f;
+}
+
+static void tot(void)
+{
+    /* A tick is 0.1 s: of the rate 10 it adds 1. */
+    serkoviu_device one = with(serkoviu_factory(), SERKOVIU_TOT, SERKOVIU_TOT_PRESET_TOT, bits_of(5.0f));
+    tick(&one, 0.0f, SERKOVIU_STATUS_GOOD, 10.0f, SERKOVIU_STATUS_GOOD);
+    CHECK(tot_is(&one, 1.0f, SERKOVIU_STATUS_GOOD));
+    uint32_t given;
+    const struct {
+        uint8_t parameter, word;
+        float up, down; /* the total after a Good tick of rate 20, of rate -20 */
+    } words[] = {
+        {SERKOVIU_TOT_SET_TOT, SERKOVIU_SET_TOT_RUN, 3.0f, -1.0f},
+        {SERKOVIU_TOT_SET_TOT, SERKOVIU_SET_TOT_RESET, 0.0f, 0.0f},
+        {SERKOVIU_TOT_SET_TOT, SERKOVIU_SET_TOT_PRESET, 5.0f, 5.0f},
+        {SERKOVIU_TOT_MODE_TOT, SERKOVIU_MODE_TOT_BALANCED, 3.0f, -1.0f},
+        {SERKOVIU_TOT_MODE_TOT, SERKOVIU_MODE_TOT_POSITIVE, 3.0f, 1.0f},
+        {SERKOVIU_TOT_MODE_TOT, SERKOVIU_MODE_TOT_NEGATIVE, 1.0f, -1.0f},
+        {SERKOVIU_TOT_MODE_TOT, SERKOVIU_MODE_TOT_HOLD, 1.0f, 1.0f},
+    };
+    for (unsigned i = 0; i < 7; i++) {
+        serkoviu_device d = with(one, SERKOVIU_TOT, words[i].parameter, words[i].word);
+        CHECK(total_after(d, 20.0f, SERKOVIU_STATUS_GOOD, &given) == words[i].up);
+        CHECK(total_after(d, -20.0f, SERKOVIU_STATUS_GOOD, &given) == words[i].down);
+    }
+    const struct {
+        uint8_t word;
+        float total;
+        uint32_t status;
+    } fails[] = {
+        {SERKOVIU_FAIL_TOT_RUN, 3.0f, SERKOVIU_STATUS_BAD_SENSOR},
+        {SERKOVIU_FAIL_TOT_HOLD, 1.0f, SERKOVIU_STATUS_UNCERTAIN_NON_SPECIFIC},
+        {SERKOVIU_FAIL_TOT_MEMORY, 2.0f, SERKOVIU_STATUS_UNCERTAIN_LAST_USABLE}, /* the rate 10 of before */
+    };
+    for (unsigned i = 0; i < 3; i++) {
+        serkoviu_device d = with(one, SERKOVIU_TOT, SERKOVIU_TOT_FAIL_TOT, fails[i].word);
+        CHECK(total_after(d, 20.0f, SERKOVIU_STATUS_BAD_SENSOR, &given) == fails[i].total);
+        CHECK(given == fails[i].status);
+    }
+}
+
+static void ao(void)
+{
+    serkoviu_device d = with(serkoviu_factory(), SERKOVIU_AO, SERKOVIU_AO_FSAFE_VALUE, bits_of(20.0f));
+    d = with(d, SERKOVIU_AO, SERKOVIU_AO_FSAFE_TIME, 1);
+    serkoviu_device safe = with(d, SERKOVIU_AO, SERKOVIU_AO_FSAFE_TYPE, SERKOVIU_FSAFE_TYPE_SAFE);
+    CHECK(good_tick(&safe).kind == SERKOVIU_SAFE && ao_is(&safe, 0.0f, SERKOVIU_STATUS_BAD_NON_SPECIFIC));
+    serkoviu_device value = with(d, SERKOVIU_AO, SERKOVIU_AO_FSAFE_TYPE, SERKOVIU_FSAFE_TYPE_VALUE);
+    CHECK(positioned(good_tick(&value), 20.0f) && ao_is(&value, 20.0f, SERKOVIU_STATUS_UNCERTAIN_SUBSTITUTE));
+    serkoviu_device last = with(d, SERKOVIU_AO, SERKOVIU_AO_FSAFE_TYPE, SERKOVIU_FSAFE_TYPE_LAST);
+    CHECK(positioned(good_tick(&last), 0.0f) && ao_is(&last, 0.0f, SERKOVIU_STATUS_UNCERTAIN_INITIAL));
+    /* FSAFE_TIME 1: two ticks follow a telegram, the third is fail-safe. */
+    CHECK(telegram(&last, SERKOVIU_SP, 40.0f, SERKOVIU_STATUS_GOOD) == SERKOVIU_ACCEPTED);
+    CHECK(positioned(good_tick(&last), 40.0f) && ao_is(&last, 40.0f, SERKOVIU_STATUS_GOOD));
+    CHECK(positioned(good_tick(&last), 40.0f) && ao_is(&last, 40.0f, SERKOVIU_STATUS_GOOD));
+    CHECK(positioned(good_tick(&last), 40.0f) && ao_is(&last, 40.0f, SERKOVIU_STATUS_UNCERTAIN_LAST_USABLE));
+    /* A telegram that initiates fail-safe does so at once, whatever bits it has outside quality and sub-status. */
+    const uint8_t qualities[] = {SERKOVIU_QUALITY_GOOD, SERKOVIU_QUALITY_GOOD_CASCADE};
+    for (unsigned i = 0; i < 2; i++) {
+        serkoviu_device told = value;
+        CHECK(telegram(&told, SERKOVIU_SP, 40.0f, SERKOVIU_STATUS_GOOD) == SERKOVIU_ACCEPTED);
+        uint8_t status = (uint8_t)(qualities[i] | SERKOVIU_SUB_STATUS_IFS | SERKOVIU_LIMITS_HIGH);
+        CHECK((status & SERKOVIU_SUB_STATUS_MASK) == SERKOVIU_SUB_STATUS_IFS);
+        CHECK(telegram(&told, SERKOVIU_SP, 60.0f, status) == SERKOVIU_ACCEPTED);
+        good_tick(&told);
+        CHECK(ao_is(&told, 20.0f, SERKOVIU_STATUS_UNCERTAIN_SUBSTITUTE));
+    }
+    /* OUT for the setpoint 25. */
+    const struct {
+        uint8_t word;
+        float out;
+    } ways[] = {{SERKOVIU_INCREASE_CLOSE_RISING, 25.0f}, {SERKOVIU_INCREASE_CLOSE_FALLING, 75.0f}};
+    for (unsigned i = 0; i < 2; i++) {
+        serkoviu_device way = with(d, SERKOVIU_AO, SERKOVIU_AO_INCREASE_CLOSE, ways[i].word);
+        CHECK(telegram(&way, SERKOVIU_SP, 25.0f, SERKOVIU_STATUS_GOOD) == SERKOVIU_ACCEPTED);
+        CHECK(positioned(good_tick(&way), ways[i].out));
+    }
+}
+
+static void answers(void)
+{
+    serkoviu_device d = serkoviu_factory();
+    uint8_t room[SERKOVIU_PACKED_BYTES + 1] = {0};
+    CHECK(serkoviu_read(&d, SERKOVIU_AO + 1, SERKOVIU_AO_ST_REV).answer == SERKOVIU_NO_SUCH_BLOCK);
+    CHECK(serkoviu_read(&d, SERKOVIU_TOT, SERKOVIU_AIN_ALARMS).answer == SERKOVIU_NO_SUCH_PARAMETER);
+    CHECK(serkoviu_write(&d, SERKOVIU_AIN, SERKOVIU_AIN_ACTUAL_MODE, 0, 0) == SERKOVIU_READ_ONLY);
+    CHECK(serkoviu_write(&d, SERKOVIU_AIN, SERKOVIU_AIN_TARGET_MODE, 1, 0) == SERKOVIU_WORDS_NOT_ALLOWED);
+    CHECK(serkoviu_write(&d, SERKOVIU_TOT, SERKOVIU_TOT_TOTAL, 0, 0) == SERKOVIU_NOT_MAN);
+    CHECK(serkoviu_telegram(&d, SERKOVIU_SP, room, SERKOVIU_TELEGRAM_BYTES + 1) == SERKOVIU_WRONG_LENGTH);
+    CHECK(serkoviu_image(&d, room, SERKOVIU_IMAGE_BYTES - 1) == SERKOVIU_WRONG_LENGTH);
+    CHECK(serkoviu_image(&d, room, SERKOVIU_IMAGE_BYTES) == SERKOVIU_ACCEPTED);
+    d = with(d, SERKOVIU_PHYSICAL, SERKOVIU_PHYSICAL_WRITE_LOCKING, SERKOVIU_WRITE_LOCKING_ON);
+    CHECK(serkoviu_write(&d, SERKOVIU_AIN, SERKOVIU_AIN_PV_FTIME, 0, 0) == SERKOVIU_LOCKED);
+    d = with(d, SERKOVIU_PHYSICAL, SERKOVIU_PHYSICAL_WRITE_LOCKING, SERKOVIU_WRITE_LOCKING_OFF);
+    CHECK(serkoviu_write(&d, SERKOVIU_AIN, SERKOVIU_AIN_PV_FTIME, 0, 0) == SERKOVIU_ACCEPTED);
+    CHECK(serkoviu_warm_start(&d) == SERKOVIU_ACCEPTED);
+    CHECK(serkoviu_version() == SERKOVIU_VERSION);
+}
+
+static void packing(void)
+{
+    /* A packed device begins with the version of its form and is as long as the header says. */
+    serkoviu_device d = serkoviu_factory();
+    good_tick(&d);
+    uint8_t packed[SERKOVIU_PACKED_BYTES + 1];
+    memset(packed, 0xA5, sizeof packed);
+    CHECK(serkoviu_pack(&d, packed, SERKOVIU_PACKED_BYTES - 1) == SERKOVIU_WRONG_LENGTH);
+    CHECK(packed[0] == 0xA5 && packed[SERKOVIU_PACKED_BYTES - 2] == 0xA5);
+    CHECK(serkoviu_pack(&d, packed, sizeof packed) == SERKOVIU_ACCEPTED);
+    CHECK(packed[0] == 0 && packed[1] == 0 && packed[2] == 0 && packed[3] == SERKOVIU_LAYOUT_VERSION);
+    CHECK(packed[SERKOVIU_PACKED_BYTES] == 0xA5);
+
+    /* It comes back; bytes of another length, and of another version, leave the device as it was. */
+    serkoviu_device back = serkoviu_factory();
+    CHECK(serkoviu_unpack(&back, packed, SERKOVIU_PACKED_BYTES) == SERKOVIU_ACCEPTED);
+    CHECK(ain_is(&back, 50.0f, SERKOVIU_STATUS_GOOD));
+    serkoviu_device kept = serkoviu_factory();
+    CHECK(serkoviu_unpack(&kept, packed, SERKOVIU_PACKED_BYTES - 1) == SERKOVIU_WRONG_LENGTH);
+    CHECK(serkoviu_unpack(&kept, packed, SERKOVIU_PACKED_BYTES + 1) == SERKOVIU_WRONG_LENGTH);
+    packed[3] = SERKOVIU_LAYOUT_VERSION + 1;
+    CHECK(serkoviu_unpack(&kept, packed, SERKOVIU_PACKED_BYTES) == SERKOVIU_NOT_A_DEVICE);
+    CHECK(ain_is(&kept, 0.0f, SERKOVIU_STATUS_BAD_OUT_OF_SERVICE));
+}
+
+int main(void)
+{
+    modes();
+    ain();
+    tot();
+    ao();
+    answers();
+    packing();
+    printf("%u checks, %u wrong\n", made, wrong);
+    return wrong != 0;
+}
