@@ -1,4 +1,4 @@
--- AIN's alarms, from paper 01, "AIN tick". One rule serves the four: what differs between a high and a low alarm is an argument. Assumes nothing.
+-- AIN's alarms, document 01, AIN tick. One rule serves the four: what differs between a high and a low alarm is an argument. Assumes nothing.
 use Prim.Native.Nat.{ℕ}
 use mathlib.Core.Bool.{Bool, true, false, not, _&&_, _||_, cond}
 use lib.Dec.{eqb}
@@ -7,15 +7,15 @@ use Rattle.wire.specs.Status.{qualityOf}
 use Rattle.ain.specs.declared.Settings.{Settings}
 use Rattle.ain.specs.declared.Alarms.{Alarms}
 
--- "a high one rises at OUT ≥ limit", "a low one rises at OUT ≤ limit"
+-- A10: a high alarm is raised by an OUT at or above its limit, a low one by an OUT at or below it
 unfoldable pub rises : Bool → Float → Float → Bool
 rises low limit out = cond low (le out limit) (le limit out)
 
--- a high one "falls at OUT < limit − ALARM_HYS", a low one "falls at OUT > limit + ALARM_HYS"
+-- A10: it falls when OUT is back by more than the hysteresis: below limit less hysteresis, for a low one above their sum
 unfoldable pub falls : Bool → Float → Float → Float → Bool
 falls low limit hysteresis out = cond low (lt (add binary32 limit hysteresis) out) (lt out (sub binary32 limit hysteresis))
 
--- an alarm after a tick that is not O/S: raised by it, or standing before and not fallen
+-- A10: an alarm after a tick outside O/S: raised by it, or standing before and not fallen
 unfoldable pub alarmStands : Bool → Bool → Float → Float → Float → Bool
 alarmStands low stood limit hysteresis out = rises low limit out || (stood && not (falls low limit hysteresis out))
 
@@ -27,11 +27,11 @@ alarmsOf s stood out = record {
   «lo_lo» = alarmStands true (stood .«lo_lo») (s .«lo_lo_lim») (s .«alarm_hys») out;
 }
 
--- "An O/S tick clears all."
+-- A11: none stands after an O/S tick
 abbrev pub noAlarms : Alarms
 noAlarms = record { «hi_hi» = false; hi = false; lo = false; «lo_lo» = false }
 
--- "A usable Auto tick with input quality 2 then has status 0x8E for HI_HI, else 0x8D LO_LO, else 0x8A HI, else 0x89 LO, else the input's; quality 1 keeps its own."
+-- A12: the status of a usable Auto tick: with a Good input that of the first alarm that stands, in the order HI_HI, LO_LO, HI, LO; otherwise the input's
 unfoldable pub alarmStatus : Alarms → ℕ → ℕ
 alarmStatus stand status =
     cond (not (eqb (qualityOf status) 2)) status

@@ -32,7 +32,9 @@ unfolding filtered
 filtered-unfinished time old x h = go (eq time (ofInt binary32 (pos 0)) || not (old .some))
   where
     sum : Float
-    sum = add binary32 (old .value) (div binary32 (sub binary32 x (old .value)) (add binary32 (mul binary32 time (ofInt binary32 (pos 10))) (ofInt binary32 (pos 1))))
+    sum =
+        add binary32 (old .value)
+        (div binary32 (sub binary32 x (old .value)) (add binary32 (mul binary32 time (ofInt binary32 (pos 10))) (ofInt binary32 (pos 1))))
 
     go : (b : Bool) → finite (cond b x sum) ≡ false
     go true = h
@@ -46,11 +48,15 @@ calculated-unfinished s old bits h =
     (atFraction-unfinished (s .«out_scale») (fractionOf (s .«pv_scale») (floatOf bits)) (fraction-unfinished (s .«pv_scale») (floatOf bits) h))
 
 -- ---- when an Auto tick is Good
-fail-safe-not-good : (kind : ℕ) (value : Float) (last : Kept) (scaled : Float) (old : Pair) (bad : ℕ) → good bad ≡ false → good (failSafeOut kind value last scaled old bad .status) ≡ false
+fail-safe-not-good : (kind : ℕ) (value : Float) (last : Kept) (scaled : Float) (old : Pair) (bad : ℕ) → good bad ≡ false
+    → good (failSafeOut kind value last scaled old bad .status) ≡ false
 unfolding failSafeOut
 fail-safe-not-good kind value last scaled old bad h = go (eqb kind 0) (eqb kind 1) (last .some) (finite scaled)
   where
-    go : (a b c d : Bool) → good (cond {A = Pair} a (record { bits = bitsOf value; status = 0x48 }) (cond b (cond c (record { bits = bitsOf (last .value); status = 0x44 }) (record { bits = 0; status = 0x4c })) (cond d (record { bits = bitsOf scaled; status = bad }) (record { bits = old .bits; status = bad }))) .status) ≡ false
+    go : (a b c d : Bool)
+        → good (cond {A = Pair} a (record { bits = bitsOf value; status = 0x48 })
+        (cond b (cond c (record { bits = bitsOf (last .value); status = 0x44 }) (record { bits = 0; status = 0x4c }))
+        (cond d (record { bits = bitsOf scaled; status = bad }) (record { bits = old .bits; status = bad }))) .status) ≡ false
     go true b c d = refl
     go false true true d = refl
     go false true false d = refl
@@ -61,7 +67,8 @@ alarm-status-good : (stand : Alarms) (status : ℕ) → good (alarmStatus stand 
 unfolding alarmStatus
 alarm-status-good stand status = go (eqb (qualityOf status) 2) refl (stand .«hi_hi») (stand .«lo_lo») (stand .hi) (stand .lo)
   where
-    go : (q : Bool) → eqb (qualityOf status) 2 ≡ q → (a b c d : Bool) → eqb (qualityOf (cond (not q) status (cond a 0x8e (cond b 0x8d (cond c 0x8a (cond d 0x89 status)))))) 2 ≡ q
+    go : (q : Bool) → eqb (qualityOf status) 2 ≡ q → (a b c d : Bool)
+        → eqb (qualityOf (cond (not q) status (cond a 0x8e (cond b 0x8d (cond c 0x8a (cond d 0x89 status)))))) 2 ≡ q
     go false e a b c d = e
     go true e true b c d = refl
     go true e false true c d = refl
@@ -69,7 +76,7 @@ alarm-status-good stand status = go (eqb (qualityOf status) 2) refl (stand .«hi
     go true e false false false true = refl
     go true e false false false false = e
 
--- a status that "quality 3 counts as 0x04; quality 0 is itself" makes Bad is not Good
+-- A5: a status that is Bad by itself or counts as Bad is not Good
 other-quality : (status k : ℕ) → eqb (qualityOf status) k ≡ true → eqb k 2 ≡ false → good status ≡ false
 other-quality status k h n = ap (λ (q : ℕ). eqb q 2) (eqb-true (qualityOf status) k h) ∙ n
 
@@ -108,19 +115,23 @@ module _ (s : Settings) (st : State) (mode bits status : ℕ) where
   -- In Auto, OUT's quality is 2 exactly when the input's is and the calculated value is finite.
   pub good-exactly : good (autoTick s st mode bits status .out .status) ≡ good status && finite (calculated s (st .filter) bits)
   unfolding autoTick inputOf inputStatus outcome
-  good-exactly = go (eqb (qualityOf status) 3) refl (eqb (qualityOf status) 0) refl (finite (floatOf bits)) refl (finite (scaledValue s bits) && finite pv) refl
+  good-exactly =
+      go (eqb (qualityOf status) 3) refl (eqb (qualityOf status) 0) refl (finite (floatOf bits)) refl (finite (scaledValue s bits) && finite pv) refl
     where
       by : (a b c d : Bool) → Input
       by a b c d = cond a (Bad 0x04) (cond b (Bad status) (cond (not c) (Bad 0x10) (cond (not d) (Bad 0x04) Usable)))
 
-      go : (a : Bool) → eqb (qualityOf status) 3 ≡ a → (b : Bool) → eqb (qualityOf status) 0 ≡ b → (c : Bool) → finite (floatOf bits) ≡ c → (d : Bool) → finite (scaledValue s bits) && finite pv ≡ d → outcome (by a b c d) ≡ good status && finite pv
+      go : (a : Bool) → eqb (qualityOf status) 3 ≡ a → (b : Bool) → eqb (qualityOf status) 0 ≡ b → (c : Bool) → finite (floatOf bits) ≡ c → (d : Bool)
+          → finite (scaledValue s bits) && finite pv ≡ d → outcome (by a b c d) ≡ good status && finite pv
       go true ea b eb c ec d ed = bad-outcome 0x04 refl ∙ sym (ap (λ (g : Bool). g && finite pv) (other-quality status 3 ea refl))
       go false ea true eb c ec d ed =
           let q : good status ≡ false = other-quality status 0 eb refl in
           bad-outcome status q ∙ sym (ap (λ (g : Bool). g && finite pv) q)
       go false ea false eb false ec d ed = bad-outcome 0x10 refl ∙ sym (and-false (good status) (finite pv) (calculated-unfinished s (st .filter) bits ec))
-      go false ea false eb true ec false ed = bad-outcome 0x04 refl ∙ sym (and-false (good status) (finite pv) (not-both (finite (scaledValue s bits)) refl ed))
-      go false ea false eb true ec true ed = usable-outcome ∙ sym (and-true (good status) (finite pv) (right-true (finite (scaledValue s bits)) (finite pv) ed))
+      go false ea false eb true ec false ed =
+          bad-outcome 0x04 refl ∙ sym (and-false (good status) (finite pv) (not-both (finite (scaledValue s bits)) refl ed))
+      go false ea false eb true ec true ed =
+          usable-outcome ∙ sym (and-true (good status) (finite pv) (right-true (finite (scaledValue s bits)) (finite pv) ed))
 
 -- ---- OUT stays finite
 -- a single that is finite
@@ -149,18 +160,23 @@ calculated-fits s old bits = go (eq (s .«pv_ftime») (ofInt binary32 (pos 0)) |
     x = scaledValue s bits
 
     sum : Float
-    sum = add binary32 (old .value) (div binary32 (sub binary32 x (old .value)) (add binary32 (mul binary32 (s .«pv_ftime») (ofInt binary32 (pos 10))) (ofInt binary32 (pos 1))))
+    sum =
+        add binary32 (old .value)
+        (div binary32 (sub binary32 x (old .value)) (add binary32 (mul binary32 (s .«pv_ftime») (ofInt binary32 (pos 10))) (ofInt binary32 (pos 1))))
 
     go : (b : Bool) → T (fits binary32 (cond b x sum))
     go true = scaled-fits s bits
     go false = add-fits binary32 _ _
 
-fail-safe-finite : (s : Settings) (st : State) → FiniteStore s st → (bits bad : ℕ) → finite (floatOf (failSafeOut (s .«fsafe_type») (s .«fsafe_value») (st .last) (scaledValue s bits) (st .out) bad .bits)) ≡ true
+fail-safe-finite : (s : Settings) (st : State) → FiniteStore s st → (bits bad : ℕ)
+    → finite (floatOf (failSafeOut (s .«fsafe_type») (s .«fsafe_value») (st .last) (scaledValue s bits) (st .out) bad .bits)) ≡ true
 unfolding failSafeOut ofBits
 fail-safe-finite s st h bits bad = go (eqb (s .«fsafe_type») 0) (eqb (s .«fsafe_type») 1) (st .last .some) (h .last) (finite (scaledValue s bits)) refl
   where
     go : (a b c : Bool) → (c ≡ true → Finite (st .last .value)) → (d : Bool) → finite (scaledValue s bits) ≡ d
-        → finite (floatOf (cond {A = Pair} a (record { bits = bitsOf (s .«fsafe_value»); status = 0x48 }) (cond b (cond c (record { bits = bitsOf (st .last .value); status = 0x44 }) (record { bits = 0; status = 0x4c })) (cond d (record { bits = bitsOf (scaledValue s bits); status = bad }) (record { bits = st .out .bits; status = bad }))) .bits)) ≡ true
+        → finite (floatOf (cond {A = Pair} a (record { bits = bitsOf (s .«fsafe_value»); status = 0x48 })
+        (cond b (cond c (record { bits = bitsOf (st .last .value); status = 0x44 }) (record { bits = 0; status = 0x4c }))
+        (cond d (record { bits = bitsOf (scaledValue s bits); status = bad }) (record { bits = st .out .bits; status = bad }))) .bits)) ≡ true
     go true b c l d e = written (s .«fsafe_value») (h .value)
     go false true true l d e = written (st .last .value) (l refl)
     go false true false l d e = refl
@@ -179,7 +195,10 @@ module _ (s : Settings) (st : State) (h : FiniteStore s st) (mode bits status : 
       held : (bad : ℕ) → finite (floatOf (unusableTick s st mode (scaledValue s bits) bad .out .bits)) ≡ true
       held bad = fail-safe-finite s st h bits bad
 
-      go : (a b c d e : Bool) → finite pv ≡ e → finite (floatOf (autoBy s st mode bits status (cond a (Bad 0x04) (cond b (Bad status) (cond c (Bad 0x10) (cond (not (d && e)) (Bad 0x04) Usable)))) .out .bits)) ≡ true
+      go : (a b c d e : Bool) → finite pv ≡ e
+          → finite (floatOf
+          (autoBy s st mode bits status (cond a (Bad 0x04) (cond b (Bad status) (cond c (Bad 0x10) (cond (not (d && e)) (Bad 0x04) Usable)))) .out .bits))
+          ≡ true
       go true b c d e p = held 0x04
       go false true c d e p = held status
       go false false true d e p = held 0x10
@@ -189,7 +208,8 @@ module _ (s : Settings) (st : State) (h : FiniteStore s st) (mode bits status : 
 
 -- ---- one alarm in one tick
 -- No alarm rises and falls in one tick: the hysteresis is at least 0, and rounding keeps the order.
-pub not-both-ways : (low : Bool) (limit hysteresis out : Float) → T (fits binary32 limit) → isNan limit ≡ false → finite hysteresis ≡ true → T (le (ofBits binary32 0) hysteresis)
+pub not-both-ways : (low : Bool) (limit hysteresis out : Float) → T (fits binary32 limit) → isNan limit ≡ false → finite hysteresis ≡ true
+    → T (le (ofBits binary32 0) hysteresis)
     → T (rises low limit out) → T (falls low limit hysteresis out) → ⊥
 unfolding rises falls
 not-both-ways true limit hysteresis out F N H P r f = not-rise-and-fall binary32 limit hysteresis F N H P false out r f

@@ -1,10 +1,10 @@
--- AIN's state when fresh, after an accepted write of OUT and after a warm start, from paper 01, "Parameters", "Mode" and "History rules". Assumes nothing.
+-- AIN's state when fresh, after an accepted write of OUT and after a warm start: document 01, Parameters, Mode and History rules. Assumes nothing.
 use Rattle.wire.specs.declared.Pair.{Pair}
 use Rattle.blocks.specs.Common.{outOfService, heldOut, freshOperator, none}
 use Rattle.ain.specs.declared.State.{State}
 use Rattle.ain.specs.Alarm.{noAlarms}
 
--- "Fresh and after a warm start: actual O/S, status 0x1F. Fresh output values are 0."
+-- M3, M4, P15: fresh: O/S, OUT 0 with 0x1F, the fresh operator's pair, nothing remembered
 abbrev pub freshState : State
 freshState = record {
   out = record { bits = 0; status = 0x1f };
@@ -15,7 +15,7 @@ freshState = record {
   alarms = noAlarms;
 }
 
--- "Writes of 10 and 37 count as the operator's: AIN and AO keep that pair (fresh: 0, 0x4C) for Man ticks"
+-- P15: a written OUT is the operator's pair, which is kept for ticks in Man; OUT itself stays
 abbrev pub operatedState : State → Pair → State
 operatedState st pair = record {
   out = st .out;
@@ -26,7 +26,7 @@ operatedState st pair = record {
   alarms = st .alarms;
 }
 
--- "A warm start keeps S, N, ST_REV, the total and output values, and forgets alarms, filter, last usable values, operator's pairs"
+-- R17, M3: a warm start leaves OUT's value, under 0x1F and in O/S; all else in the state is as fresh
 abbrev pub warmStarted : State → State
 warmStarted st = record {
   out = heldOut (st .out);

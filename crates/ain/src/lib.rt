@@ -1,4 +1,4 @@
-// AIN, the analog input block: its settings, its state and its tick (paper 01, "AIN tick" and "Mode").
+// AIN, the analog input block: its settings, its state and its tick (document 01, AIN tick and Mode).
 ghost use mathlib.Core.Path.{_≡_};
 ghost use Rattle.ain.specs.Scaling.{scaledOf, filtered};
 ghost use Rattle.ain.specs.Alarm.{alarmStands, alarmsOf, alarmStatus, noAlarms};

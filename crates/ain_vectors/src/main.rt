@@ -1,4 +1,4 @@
-// Ticks of AIN worked from paper 01, one line each: fault flag, transducer's bits and status, then OUT's bits and status, the
+// Ticks of AIN worked from document 01, one line each: fault flag, transducer's bits and status, then OUT's bits and status, the
 // actual mode and the alarm byte; so too a write of OUT and a warm start. The expected lines were worked apart from this code, in
 // exact fractions rounded to singles. What it would catch: a rounding too many or too few, scaling in another order or left out,
 // a filter filled or emptied by the wrong tick, the status or the value of another cause, an alarm moved by the wrong limit.
@@ -150,8 +150,8 @@ fn points() {
     st = tick(s, st, 79.25, 0x80);
 }
 
-// Each operation rounds once, in the order written: equal scales are no identity (41f00001), no fused multiply-add (c2246666),
-// the division before the product (c20ecccc), ties to even, down and up.
+// Operations are those of document 01, in its order, each rounded: equal scales are no identity (41f00001), no fused
+// multiply-add (c2246666), the division before the product (c20ecccc), ties to even, down and up.
 fn rounding() {
     title(b"rounding");
     let mut st = ain::fresh();

@@ -27,23 +27,26 @@ use Rattle.ao.specs.declared.State.{State}
 use Rattle.ao.specs.declared.Input.{Input}
 use Rattle.ao.specs.declared.Class.{Class}
 use Rattle.ao.specs.declared.Class.the-variants.{Usable, InitiateFailSafe, Neither}
-use Rattle.ao.specs.FailSafe.{classOf, classNumber, usable, initiates, InputOf, afterTelegram, silenceAfter, failSafeActs, failSafeCase, caseOf, Case, following, fallback, held, nothingHeld, safety, rest, GivenOf, positioned, scaledOr, leadsTo, byMode}
+use Rattle.ao.specs.FailSafe.{classOf, classNumber, usable, initiates, InputOf, afterTelegram, silenceAfter, failSafeActs, failSafeCase, caseOf}
+use Rattle.ao.specs.FailSafe.{Case, following, fallback, held, nothingHeld, safety, rest, GivenOf, positioned, scaledOr, leadsTo, byMode}
 use Rattle.ao.specs.Telegram.{refusedWith, receivedOn, telegramOf}
 use Rattle.ao.specs.Tick.{closing, scaledOut, outOf, givenBy, givenByInput, inputUsed, givenIn, tickedWith, tickOf}
 
 -- ---- telegrams
 
--- "usable if quality is 2 or 3, sub-status isn't 8 and the value is finite"
-pub usable-means : (status : ℕ) (finiteValue : Bool) → usable status finiteValue ≡ ((eqb (qualityOf status) 2 || eqb (qualityOf status) 3) && not (eqb (subStatusOf status) 8) && finiteValue)
+-- O1: usable: of either Good quality, with another sub-status than 8 and a finite value
+pub usable-means : (status : ℕ) (finiteValue : Bool)
+    → usable status finiteValue ≡ ((eqb (qualityOf status) 2 || eqb (qualityOf status) 3) && not (eqb (subStatusOf status) 8) && finiteValue)
 unfolding usable classOf
 usable-means status finiteValue = go (eqb (qualityOf status) 2 || eqb (qualityOf status) 3) (eqb (subStatusOf status) 8)
   where
-    go : (good initiating : Bool) → (eqb (classNumber (cond good (cond initiating InitiateFailSafe Usable) Neither)) 1 && finiteValue) ≡ (good && not initiating && finiteValue)
+    go : (good initiating : Bool)
+        → (eqb (classNumber (cond good (cond initiating InitiateFailSafe Usable) Neither)) 1 && finiteValue) ≡ (good && not initiating && finiteValue)
     go true true = refl
     go true false = refl
     go false initiating = refl
 
--- "an initiate-fail-safe (IFS) if quality is 2 or 3 and sub-status 8"
+-- O1: IFS: of either Good quality, with sub-status 8
 pub initiates-means : (status : ℕ) → initiates status ≡ ((eqb (qualityOf status) 2 || eqb (qualityOf status) 3) && eqb (subStatusOf status) 8)
 unfolding initiates classOf
 initiates-means status = go (eqb (qualityOf status) 2 || eqb (qualityOf status) 3) (eqb (subStatusOf status) 8)
@@ -65,11 +68,13 @@ usable-excludes status finiteValue = go (classOf status)
 
 -- An input after a usable telegram, after an IFS and after another, for any kind of value.
 module _ {A : Type 0} (status : ℕ) (finiteValue : Bool) (value : A) (input : InputOf A) where
-  pub after-usable : usable status finiteValue ≡ true → afterTelegram status finiteValue value input ≡ record { some = true; value = value; silence = 0; ifs = false }
+  pub after-usable : usable status finiteValue ≡ true
+      → afterTelegram status finiteValue value input ≡ record { some = true; value = value; silence = 0; ifs = false }
   unfolding afterTelegram
   after-usable u = rw u
 
-  pub after-ifs : usable status finiteValue ≡ false → initiates status ≡ true → afterTelegram status finiteValue value input ≡ record { some = input .some; value = input .value; silence = input .silence; ifs = true }
+  pub after-ifs : usable status finiteValue ≡ false → initiates status ≡ true
+      → afterTelegram status finiteValue value input ≡ record { some = input .some; value = input .value; silence = input .silence; ifs = true }
   unfolding afterTelegram
   after-ifs u i = rw (u, i)
 
@@ -78,18 +83,20 @@ module _ {A : Type 0} (status : ℕ) (finiteValue : Bool) (value : A) (input : I
   after-other u i = rw (u, i)
 
 -- A refused telegram leaves the state as it was.
-pub refused-keeps : (x : State) (input : ℕ) (bytes : List ℕ) (r : Refusal) → telegramOf x input bytes .answer ≡ Answer.Refused r → telegramOf x input bytes .state ≡ x
+pub refused-keeps : (x : State) (input : ℕ) (bytes : List ℕ) (r : Refusal) → telegramOf x input bytes .answer ≡ Answer.Refused r
+    → telegramOf x input bytes .state ≡ x
 unfolding telegramOf
 refused-keeps x input bytes r = go (ltb 1 input) (pairOf bytes)
   where
-    go : (b : Bool) (p : Received) → cond b (refusedWith x NoSuchInput) (receivedOn x input p) .answer ≡ Answer.Refused r → cond b (refusedWith x NoSuchInput) (receivedOn x input p) .state ≡ x
+    go : (b : Bool) (p : Received) → cond b (refusedWith x NoSuchInput) (receivedOn x input p) .answer ≡ Answer.Refused r
+        → cond b (refusedWith x NoSuchInput) (receivedOn x input p) .state ≡ x
     go true p h = refl
     go false (Received.Refused q) h = refl
     go false (Received.Value p) h = let z : _≡_ {A = ℕ} 0 1 = cc in absurd (omega arith)
 
 -- ---- the count
 
--- FSAFE_TIME is "whole ticks 0 to 65,535": the count that stops at 65,536 decides as the true one does.
+-- P13b: FSAFE_TIME is at most 65,535 ticks: the count that stops at 65,536 decides as the true one does.
 pub stopped-decides : (came : Bool) (n : ℕ) (ifs : Bool) (time : ℕ) → time ≤ 65535 → failSafeActs came (min n 65536) ifs time ≡ failSafeActs came n ifs time
 unfolding failSafeActs
 stopped-decides came n ifs time h = ap (λ (b : Bool). not came || b || ifs) (go (ltb time n) refl)
@@ -106,7 +113,8 @@ stopped-counts n = omega arith
 -- ---- the decision, for any kind of value
 
 module _ {A : Type 0} (time kind : ℕ) (fsafeValue : A) (input : InputOf A) where
-  pub case-fail-safe : failSafeActs (input .some) (input .silence) (input .ifs) time ≡ true → caseOf time kind fsafeValue input ≡ failSafeCase kind fsafeValue (input .some) (input .value)
+  pub case-fail-safe : failSafeActs (input .some) (input .silence) (input .ifs) time ≡ true
+      → caseOf time kind fsafeValue input ≡ failSafeCase kind fsafeValue (input .some) (input .value)
   unfolding caseOf
   case-fail-safe h = rw h
 
@@ -128,7 +136,8 @@ module _ {A O : Type 0} (P : O → Type 0) (scaled : A → Option O) (old : O) (
   led-holds nothingHeld = kept
   led-holds safety = kept
 
-pub given-holds : {O : Type 0} (P : O → Type 0) (mode : ℕ) (old operator : O) (operatorStatus : ℕ) (led : GivenOf O) → P old → P operator → P (led .value) → P (byMode mode old operator operatorStatus led .value)
+pub given-holds : {O : Type 0} (P : O → Type 0) (mode : ℕ) (old operator : O) (operatorStatus : ℕ) (led : GivenOf O) → P old → P operator → P (led .value)
+    → P (byMode mode old operator operatorStatus led .value)
 unfolding byMode
 given-holds P mode old operator operatorStatus led h o l = go (eqb mode 0x80) (eqb mode 0x10)
   where
@@ -146,9 +155,10 @@ acts s input = failSafeActs (input .some) (input .silence) (input .ifs) (s .«fs
 abbrev pub fsafeCase : Settings → Input → Case Float
 fsafeCase s input = failSafeCase (s .«fsafe_type») (s .«fsafe_value») (input .some) (input .value)
 
--- In Auto and RCas, the actual mode being neither O/S nor Man, value, status and order are those of FSAFE_TYPE's case where fail-safe acts, and else
--- those that the last usable telegram leads to.
-module _ (s : Settings) (x : State) (fault : Bool) (in-service : eqb (actualMode fault (s .target)) outOfService ≡ false) (not-Man : eqb (actualMode fault (s .target)) man ≡ false) where
+-- R15: in Auto and RCas, the actual mode being neither O/S nor Man, value, status and order are those of FSAFE_TYPE's case where fail-safe acts, and else
+-- those by the last usable telegram.
+module _ (s : Settings) (x : State) (fault : Bool) (in-service : eqb (actualMode fault (s .target)) outOfService ≡ false)
+    (not-Man : eqb (actualMode fault (s .target)) man ≡ false) where
   pub tick-fail-safe :
       acts s (inputUsed x (actualMode fault (s .target))) ≡ true →
       tickOf s x fault ≡ tickedWith x (actualMode fault (s .target)) (givenBy s (x .out .bits) (fsafeCase s (inputUsed x (actualMode fault (s .target)))))
@@ -189,7 +199,8 @@ out-of-finite s w bits = go (finite (scaledOut s w)) refl
     go false e h = let z : _≡_ {A = ℕ} 0 1 = cc in absurd (omega arith)
 
 -- OUT stays finite.
-pub out-finite : (s : Settings) (x : State) (fault : Bool) → finite (floatOf (x .out .bits)) ≡ true → finite (floatOf (x .operator .bits)) ≡ true → finite (floatOf (tickOf s x fault .state .out .bits)) ≡ true
+pub out-finite : (s : Settings) (x : State) (fault : Bool) → finite (floatOf (x .out .bits)) ≡ true → finite (floatOf (x .operator .bits)) ≡ true
+    → finite (floatOf (tickOf s x fault .state .out .bits)) ≡ true
 unfolding tickOf tickedWith givenIn givenByInput givenBy
 out-finite s x fault h o =
     given-holds finiteBits (actualMode fault (s .target)) (x .out .bits) (x .operator .bits) (x .operator .status) _ h o

@@ -1,4 +1,4 @@
--- AO's state outside ticks and telegrams, from paper 01, "Parameters", "Mode" and "History rules". Assumes nothing.
+-- AO's state outside ticks and telegrams: document 01, Parameters, Mode and History rules. Assumes nothing.
 use Prim.Native.Nat.{ℕ}
 use lib.Ieee.{Float}
 use Rattle.numbers.specs.Floats.{floatOf}
@@ -19,20 +19,20 @@ inputFrom i = record { some = i .some; value = i .value; silence = i .silence; i
 unfoldable pub noTelegrams : Input
 noTelegrams = inputFrom (emptied (floatOf 0))
 
--- "Fresh and after a warm start: actual O/S, status 0x1F."; "forgets .. operator's pairs .. and telegrams"
+-- M3, R17: at a start: O/S, a value under 0x1F, the fresh operator's pair and no telegrams
 unfoldable pub started : ℕ → State
 started bits =
     record { out = record { bits = bits; status = 0x1F }; mode = outOfService; operator = freshOperator; sp = noTelegrams; «rcas_in» = noTelegrams }
 
--- "Fresh output values are 0."
+-- M4: fresh the value is 0
 unfoldable pub freshState : State
 freshState = started 0
 
--- "A warm start keeps .. output values"
+-- R17: a warm start leaves the value of OUT
 unfoldable pub warmStarted : State → State
 warmStarted state = started (state .out .bits)
 
--- "Writes of 10 and 37 count as the operator's: AIN and AO keep that pair .. for Man ticks"; OUT reads "as the value and status last given"
+-- P15: a written OUT is the operator's pair, which is kept for ticks in Man. P14b: the pair that reads give stays
 unfoldable pub operatedBy : State → Pair → State
 operatedBy state pair =
     record { out = state .out; mode = state .mode; operator = pair; sp = state .sp; «rcas_in» = state .«rcas_in» }

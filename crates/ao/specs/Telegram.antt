@@ -1,4 +1,4 @@
--- AO's telegrams, from paper 01, "AO tick" and "Refused calls". Assumes nothing.
+-- AO's telegrams, document 01, AO tick and Refused calls. Assumes nothing.
 use Prim.Native.Nat.{ℕ}
 use mathlib.Core.Bool.{cond}
 use mathlib.Core.List.{List}
@@ -17,12 +17,12 @@ use Rattle.ao.specs.declared.Taken.{Taken}
 use Rattle.ao.specs.FailSafe.{afterTelegram}
 use Rattle.ao.specs.State.{inputOf, inputFrom}
 
--- an input after a telegram on it; "finite" is asked of the value
+-- O1: an input after a telegram on it, by whether its value is finite
 unfoldable pub inputAfter : Input → Pair → Input
 inputAfter input pair =
     inputFrom (afterTelegram (pair .status) (finite (floatOf (pair .bits))) (floatOf (pair .bits)) (inputOf input))
 
--- "setpoint input 0 (SP) or 1 (RCAS_IN)"; the other input and the rest unchanged
+-- C5: input 0 is SP and 1 is RCAS_IN; the other input and the rest unchanged
 unfoldable pub takenOn : State → ℕ → Pair → State
 takenOn state input pair =
     cond (eqb input 0)
@@ -37,6 +37,6 @@ abbrev pub receivedOn : State → ℕ → Received → Taken
 receivedOn state input (Received.Value pair) = record { state = takenOn state input pair; answer = Answer.Accepted }
 receivedOn state input (Received.Refused r) = refusedWith state r
 
--- "telegram 8, then 7": "no such setpoint input", then "telegram not 5 bytes"
+-- F2, F9, F10: refused first for an input that AO lacks, then for its length
 unfoldable pub telegramOf : State → ℕ → List ℕ → Taken
 telegramOf state input bytes = cond (ltb 1 input) (refusedWith state (ground 8)) (receivedOn state input (pairOf bytes))

@@ -1,4 +1,4 @@
-// AO, the analog output block (paper 01, "AO tick"): setpoint telegrams on two inputs, fail-safe, scaling, and the
+// AO, the analog output block (document 01, AO tick): setpoint telegrams on two inputs, fail-safe, scaling, and the
 // order that drives the valve.
 ghost use mathlib.Core.Path.{_≡_};
 ghost use Rattle.ao.specs.FailSafe.{classOf, silenceAfter, failSafeActs, failSafeCase, positioned, scaledOr};
@@ -28,7 +28,7 @@ pub struct Settings {
 }
 
 // A setpoint input: whether a usable telegram came since start, the value of the last one (0 while there is none), the
-// ticks since (up to 65,536; 0 while there is none), and whether the last usable or IFS telegram was IFS.
+// ticks since (up to 65,536; 0 while there is none), and whether an IFS came with no usable one after it.
 #[repr(C)]
 pub struct Input {
     pub some: bool,
@@ -329,7 +329,7 @@ fn at_position(bits: u32, status: u8) -> Given
     }
 }
 
-// What a working value leads to, with its case's status: old OUT with 0x04 where scaling fails.
+// What a working value leads to, with its case's status; where that is not finite, the old value with 0x04.
 fn scaled_or(settings: Settings, old: u32, w: f32, status: u8) -> Given
     ensures { λ r. ⌜ r ≡ givenOf (scaledOr old status (outOf settings w)) ⌝ }
 {

@@ -1,4 +1,4 @@
-// AO worked by hand from paper 01: point H, the examples of the project's readings, and the refused telegrams. Each step
+// AO worked by hand from document 01: point H, the examples of the project's readings, and the refused telegrams. Each step
 // writes a line; `stdout` has what the paper says.
 use ao::Order;
 use ao::Settings;
@@ -264,7 +264,7 @@ fn statuses() {
     tick(b);
 }
 
-// IFS: the last usable or IFS telegram decides; others between do not, and an IFS needs no finite value.
+// IFS: the later of usable and IFS telegrams decides; others between do not, and an IFS needs no finite value.
 fn initiated() {
     let b = fresh(b"initiate fail-safe");
     let b = fsafe_time(b, 100);

@@ -1,4 +1,4 @@
--- What the function blocks have in common, from paper 01's sections "Mode", "Parameters" and "AIN tick" (input status). Assumes nothing.
+-- What the function blocks have in common: document 01, Mode, Parameters and AIN tick (input status). Assumes nothing.
 use Prim.Native.Nat.{ℕ}
 use mathlib.Core.Bool.{Bool, true, false, not, _||_, cond}
 use lib.Dec.{eqb}
@@ -9,7 +9,7 @@ use Rattle.blocks.specs.declared.Kept.{Kept}
 use Rattle.blocks.specs.declared.Input.{Input}
 use Rattle.blocks.specs.declared.Input.the-variants.{Usable, Bad}
 
--- "0x80 O/S, 0x10 Man, 0x08 Auto, in AO also 0x02 RCas"
+-- P10: the codes of the modes; RCas is AO's alone
 abbrev pub outOfService : ℕ
 outOfService = 0x80
 
@@ -22,15 +22,15 @@ auto = 0x08
 abbrev pub rcas : ℕ
 rcas = 0x02
 
--- "At each tick the actual mode is O/S if the fault flag is set or the target is O/S, else the target"
+-- M1: a tick's actual mode: O/S under the fault flag, otherwise the target, which may be O/S too
 unfoldable pub actualMode : Bool → ℕ → ℕ
 actualMode fault target = cond (fault || eqb target outOfService) outOfService target
 
--- "In O/S a block keeps its value as last given, with status 0x1F"; "Fresh and after a warm start: .. status 0x1F"
+-- M2, M3: an output that is only held, in O/S and after a warm start
 abbrev pub heldOut : Pair → Pair
 heldOut out = record { bits = out .bits; status = 0x1f }
 
--- "AIN and AO keep that pair (fresh: 0, 0x4C) for Man ticks"
+-- P15: the operator's pair before a write of OUT
 abbrev pub freshOperator : Pair
 freshOperator = record { bits = 0; status = 0x4c }
 
@@ -41,8 +41,8 @@ none = record { some = false; value = ofBits binary32 0 }
 abbrev pub kept : Float → Kept
 kept x = record { some = true; value = x }
 
--- "Input status: quality 3 counts as 0x04; quality 0 is itself; else a value not finite is 0x10; else scaled or filtered not finite is 0x04.
--- Without one of these the tick is usable." The flags say whether the value, and what is calculated of it, is finite.
+-- A5: the Bad status of an input: Good Cascade is taken for 0x04, a Bad byte as it came; then it is 0x10 if the value isn't finite, and 0x04 if what is
+-- calculated of it isn't. A6: an input without a Bad status is usable. The flags say whether the value, and what is calculated of it, is finite.
 unfoldable pub inputStatus : ℕ → Bool → Bool → Input
 inputStatus status value calculated =
     cond (eqb (qualityOf status) 3) (Bad 0x04)
@@ -50,6 +50,6 @@ inputStatus status value calculated =
     (cond (not value) (Bad 0x10)
     (cond (not calculated) (Bad 0x04) Usable)))
 
--- "Good is quality 2 alone."
+-- R8: Good is quality 2, and not 3
 abbrev pub good : ℕ → Bool
 good status = eqb (qualityOf status) 2

@@ -1,5 +1,5 @@
 // What the function blocks have in common: modes, kept values, the state of an output out of service, and the
-// classification of a transducer's status (paper 01, "Mode", "Parameters", "AIN tick").
+// classification of a transducer's status (document 01, Mode, Parameters, AIN tick).
 ghost use mathlib.Core.Path.{_≡_};
 ghost use Rattle.blocks.specs.Common.{actualMode, heldOut, freshOperator, none, kept, inputStatus};
 use wire::Pair;

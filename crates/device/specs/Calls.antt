@@ -1,4 +1,4 @@
--- The calls on a device, from paper 01, "Calls on the device" and "Refused calls". A refused call leaves the device as it was. Assumes nothing.
+-- The calls on a device, document 01, Calls on the device and Refused calls. A refused call leaves the device as it was. Assumes nothing.
 use Prim.Native.Nat.{ℕ}
 use mathlib.Core.Bool.{Bool}
 use mathlib.Core.List.{List}
@@ -28,7 +28,7 @@ standingOf d = record {
   ao = d .ao .settings .target;
 }
 
--- "Write: block, parameter, two 32-bit words."
+-- C6: a write, by its answer: an accepted one is stored
 abbrev pub writeBy : Device → ℕ → ℕ → ℕ → ℕ → Answer → Answered
 writeBy d block number a b Accepted = record { device = storedIn d block number a b; answer = Accepted }
 writeBy d block number a b (Refused r) = record { device = d; answer = Refused r }
@@ -36,7 +36,7 @@ writeBy d block number a b (Refused r) = record { device = d; answer = Refused r
 unfoldable pub writeOf : Device → ℕ → ℕ → ℕ → ℕ → Answered
 writeOf d block number a b = writeBy d block number a b (ground (standingOf d) block number a b)
 
--- "Tick (0.1 s): a fault flag and two transducer pairs (value, status), the first for AIN (analog input), the second for TOT. It returns AO's drive order."
+-- C2, C3: a tick of every block, under the fault flag: AIN by the first pair, TOT by the second; the answer is AO's order
 unfoldable pub tickOf : Device → Bool → Pair → Pair → Ticked
 tickOf d fault ain tot = record {
   device = record {
@@ -60,7 +60,7 @@ tickOf d fault ain tot = record {
   order = aoTick (d .ao .settings) (d .ao .state) fault .order;
 }
 
--- "Telegram: setpoint input 0 (SP) or 1 (RCAS_IN), and a lent five-byte value."
+-- C5: a telegram, with the number of its input and its bytes, is AO's
 unfoldable pub telegramOf : Device → ℕ → List ℕ → Answered
 telegramOf d input bytes = record {
   device = record {
@@ -76,7 +76,7 @@ telegramOf d input bytes = record {
   answer = aoTelegram (d .ao .state) input bytes .answer;
 }
 
--- "A warm start keeps S, N, ST_REV, the total and output values"
+-- C7, R17: a warm start of every block; settings, WRITE_LOCKING and ST_REV stay
 unfoldable pub warmStarted : Device → Device
 warmStarted d = record {
   «write_locking» = d .«write_locking»;

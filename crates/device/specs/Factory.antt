@@ -1,4 +1,4 @@
--- The blocks' settings by their parameters' words, and the device that the factory call gives, from paper 01, "Parameters" and "Mode". Assumes nothing.
+-- The blocks' settings by their parameters' words, and the device that the factory call gives: document 01, Parameters and Mode. Assumes nothing.
 use Prim.Native.Nat.{ℕ}
 use lib.Ieee.{Float}
 use Rattle.numbers.specs.Floats.{floatOf}
@@ -18,7 +18,7 @@ use Rattle.device.specs.Stored.{scaleOf}
 abbrev pub Valuation : Type 0
 Valuation = ℕ → ℕ → Words
 
--- a parameter as a whole number, as a float and as a scale
+-- P8: a parameter as a whole number, as a float and as a scale
 abbrev pub codeBy : Valuation → ℕ → ℕ → ℕ
 codeBy v block number = v block number .first
 
@@ -63,7 +63,7 @@ aoBy v = record {
   «increase_close» = codeBy v 3 36;
 }
 
--- the defaults, fresh blocks, and no static write yet
+-- C1, P4: the defaults, fresh blocks, and no static write yet
 unfoldable pub factoryDevice : Device
 factoryDevice = record {
   «write_locking» = codeBy defaultOf 0 18;

@@ -1,5 +1,5 @@
--- Laws of calls and reads, from paper 01, "Parameters" and "Refused calls": what an accepted write, a refused call, a tick, a telegram and a warm start do to what
--- reads give. They hold of every device. Assumes nothing.
+-- Laws of calls and reads, document 01, Parameters and Refused calls: what an accepted write, a refused call, a tick, a telegram and a warm start
+-- do to what reads give. They hold of every device. Assumes nothing.
 use Prim.Native.Nat.{ℕ, _<_, _^_}
 use mathlib.Core.Path.{_≡_, refl, sym, ap, _∙_, subst}
 use mathlib.Core.Bool.{Bool, true, false, not, _&&_, _||_, cond}
@@ -51,15 +51,16 @@ moves block number block′ number′ =
 
 -- What a write of two 32-bit words does to what reads give.
 pub record WriteLaw (d : Device) (block number a b : ℕ) (r : Answered) : Type 0 where
-  -- "Reading S or N gives the words last accepted, except TOTAL": bit for bit
+  -- P14a: a stored parameter reads as it was written, bit for bit
   pub back : r .answer ≡ Accepted → T (storedEntry (entryOf block number)) → readOf (r .device) block number ≡ Read (words a b)
-  -- ST_REV is "the number of accepted S writes to it, modulo 65,536, equal values included"
-  pub counted : (rev : ℕ) → r .answer ≡ Accepted → 0 < block → readOf d block 1 ≡ Read (words rev 0) → readOf (r .device) block 1 ≡ Read (words (revAfter (isStatic block number) rev) 0)
+  -- R11: ST_REV counts a static write, whatever it changes
+  pub counted : (rev : ℕ) → r .answer ≡ Accepted → 0 < block → readOf d block 1 ≡ Read (words rev 0)
+      → readOf (r .device) block 1 ≡ Read (words (revAfter (isStatic block number) rev) 0)
   -- every other read is as before; a write of OUT or TOTAL moves none
   pub others : (block′ number′ : ℕ) → moves block number block′ number′ ≡ false → readOf (r .device) block′ number′ ≡ readOf d block′ number′
-  -- "a refused one counts for nothing"
+  -- R3: a refused write leaves the device as it was
   pub refused : (x : Refusal) → r .answer ≡ Refused x → r .device ≡ d
-  -- "A limit write alone moves no alarm."
+  -- L3: no write moves an alarm
   pub alarms : r .device .ain .state .alarms ≡ d .ain .state .alarms
 
 -- ---- what only ticks and starts move
@@ -77,7 +78,8 @@ withStates d x y z = record {
 abbrev pub lasting : ℕ → Entry → Bool
 lasting number e = storedEntry e || eqb number 1
 
-states-still : (d : Device) (x : AinState) (y : TotState) (z : AoState) (block number : ℕ) → T (lasting number (entryOf block number)) → readOf (withStates d x y z) block number ≡ readOf d block number
+states-still : (d : Device) (x : AinState) (y : TotState) (z : AoState) (block number : ℕ) → T (lasting number (entryOf block number))
+    → readOf (withStates d x y z) block number ≡ readOf d block number
 unfolding readOf wordsOf ainWords totWords aoWords physical ain tot ao
 states-still d x y z =
     by-rows
@@ -90,30 +92,36 @@ states-still d x y z =
     (refl also refl also refl also refl also refl also refl also tt)
     (refl also refl also refl also refl also refl also refl also refl also refl also tt)
 
--- A tick, a telegram and "a warm start keeps S, N, ST_REV".
-pub tick-keeps : (d : Device) (fault : Bool) (x y : Pair) (block number : ℕ) → T (lasting number (entryOf block number)) → readOf (tickOf d fault x y .device) block number ≡ readOf d block number
+-- R17: a tick, a telegram and a warm start leave stored parameters and ST_REV.
+pub tick-keeps : (d : Device) (fault : Bool) (x y : Pair) (block number : ℕ) → T (lasting number (entryOf block number))
+    → readOf (tickOf d fault x y .device) block number ≡ readOf d block number
 unfolding tickOf
-tick-keeps d fault x y = states-still d (tickOf d fault x y .device .ain .state) (tickOf d fault x y .device .tot .state) (tickOf d fault x y .device .ao .state)
+tick-keeps d fault x y =
+    states-still d (tickOf d fault x y .device .ain .state) (tickOf d fault x y .device .tot .state) (tickOf d fault x y .device .ao .state)
 
-pub telegram-keeps : (d : Device) (input : ℕ) (bytes : List ℕ) (block number : ℕ) → T (lasting number (entryOf block number)) → readOf (telegramOf d input bytes .device) block number ≡ readOf d block number
+pub telegram-keeps : (d : Device) (input : ℕ) (bytes : List ℕ) (block number : ℕ) → T (lasting number (entryOf block number))
+    → readOf (telegramOf d input bytes .device) block number ≡ readOf d block number
 unfolding telegramOf
 telegram-keeps d input bytes = states-still d (d .ain .state) (d .tot .state) (telegramOf d input bytes .device .ao .state)
 
-pub warm-start-keeps : (d : Device) (block number : ℕ) → T (lasting number (entryOf block number)) → readOf (warmStarted d) block number ≡ readOf d block number
+pub warm-start-keeps : (d : Device) (block number : ℕ) → T (lasting number (entryOf block number))
+    → readOf (warmStarted d) block number ≡ readOf d block number
 unfolding warmStarted
 warm-start-keeps d = states-still d (warmStarted d .ain .state) (warmStarted d .tot .state) (warmStarted d .ao .state)
 
 -- ---- telegrams
 
 -- A refused telegram leaves the device as it was.
-pub refused-telegram : (d : Device) (input : ℕ) (bytes : List ℕ) (r : Refusal) → telegramOf d input bytes .answer ≡ Refused r → telegramOf d input bytes .device ≡ d
+pub refused-telegram : (d : Device) (input : ℕ) (bytes : List ℕ) (r : Refusal) → telegramOf d input bytes .answer ≡ Refused r
+    → telegramOf d input bytes .device ≡ d
 unfolding telegramOf aoTelegram
 refused-telegram d input bytes r = go (ltb 1 input) (received bytes)
   where
     after : Taken → Device
     after t = withStates d (d .ain .state) (d .tot .state) (t .state)
 
-    go : (p : Bool) (x : Received) → cond p (refusedWith (d .ao .state) NoSuchInput) (receivedOn (d .ao .state) input x) .answer ≡ Refused r → after (cond p (refusedWith (d .ao .state) NoSuchInput) (receivedOn (d .ao .state) input x)) ≡ d
+    go : (p : Bool) (x : Received) → cond p (refusedWith (d .ao .state) NoSuchInput) (receivedOn (d .ao .state) input x) .answer ≡ Refused r
+        → after (cond p (refusedWith (d .ao .state) NoSuchInput) (receivedOn (d .ao .state) input x)) ≡ d
     go true x e = refl
     go false (Received.Value pair) e = cc
     go false (Received.Refused s) e = refl
@@ -126,7 +134,8 @@ taken-shown NoParameter a b f g t = refl
 taken-shown (Parameter class allowed) a b f g t = shown-back (words a b) f g allowed (and-r (not (readOnly class)) (allowsOf allowed a b) t)
 
 -- the parameter written
-stored-shown : (d : Device) (a b block number : ℕ) → T (storedEntry (entryOf block number)) → readOf (storedIn d block number a b) block number ≡ Read (shownBy (entryOf block number) (words a b))
+stored-shown : (d : Device) (a b block number : ℕ) → T (storedEntry (entryOf block number))
+    → readOf (storedIn d block number a b) block number ≡ Read (shownBy (entryOf block number) (words a b))
 unfolding readOf wordsOf ainWords totWords aoWords physical ain tot ao storedIn ainWritten totWritten aoWritten ainSettings totSettings aoSettings
 stored-shown d a b =
     by-rows
@@ -145,8 +154,10 @@ unstored number NoBlock = false
 unstored number NoParameter = false
 unstored number (Parameter class allowed) = not (readOnly class) && not (storedEntry (Parameter class allowed))
 
-outputs-still : (d : Device) (a b block′ number′ block number : ℕ) → T (unstored number (entryOf block number)) → readOf (storedIn d block number a b) block′ number′ ≡ readOf d block′ number′
-unfolding readOf wordsOf ainWords totWords aoWords physical ain tot ao storedIn ainWritten totWritten aoWritten ainSettings totSettings aoSettings revAfter isStatic entryOf entryIn operatedBy
+outputs-still : (d : Device) (a b block′ number′ block number : ℕ) → T (unstored number (entryOf block number))
+    → readOf (storedIn d block number a b) block′ number′ ≡ readOf d block′ number′
+unfolding readOf wordsOf ainWords totWords aoWords physical ain tot ao storedIn ainWritten totWritten aoWritten ainSettings totSettings aoSettings revAfter
+    isStatic entryOf entryIn operatedBy
 outputs-still d a b block′ number′ =
     by-rows
     unstored
@@ -170,7 +181,8 @@ module _ (number n : ℕ) (other : eqb number n ≡ false) where
       go true e = ap (λ (q : Bool). g (cond q x y)) (subst (λ (m : ℕ). eqb number m ≡ false) (eqb-true n k e) other)
       go false e = refl
 
-  keep-rev : (counted : Bool) (rev : ℕ) (rest : Words) → (eqb n 1 && counted) ≡ false → cond (eqb n 1) (code (revAfter counted rev)) rest ≡ cond (eqb n 1) (code rev) rest
+  keep-rev : (counted : Bool) (rev : ℕ) (rest : Words) → (eqb n 1 && counted) ≡ false
+      → cond (eqb n 1) (code (revAfter counted rev)) rest ≡ cond (eqb n 1) (code rev) rest
   unfolding revAfter
   keep-rev counted rev rest = go _ (eqb n 1) counted
     where
@@ -196,16 +208,19 @@ module _ (number n : ℕ) (other : eqb number n ≡ false) where
     unfolding readOf wordsOf storedIn entryOf entryIn physical
     lock-kept d t = go (eqb number 18) refl (eqb n 18) refl t
       where
-        go : (p : Bool) → eqb number 18 ≡ p → (q : Bool) → eqb n 18 ≡ q → T (storedEntry (cond p (Parameter N Lock) NoParameter)) → readBy (code a) (cond q (Parameter N Lock) NoParameter) ≡ readBy (code (d .«write_locking»)) (cond q (Parameter N Lock) NoParameter)
+        go : (p : Bool) → eqb number 18 ≡ p → (q : Bool) → eqb n 18 ≡ q → T (storedEntry (cond p (Parameter N Lock) NoParameter))
+            → readBy (code a) (cond q (Parameter N Lock) NoParameter) ≡ readBy (code (d .«write_locking»)) (cond q (Parameter N Lock) NoParameter)
         go p e false f t = refl
         go false e true f t = absurd t
         go true e true f t = let z : true ≡ false = sym (eq-eqb number n (eqb-true number 18 e ∙ sym (eqb-true n 18 f))) ∙ other in cc
 
-    block-kept : (d : Device) (block : ℕ) → T (storedEntry (entryOf block number)) → (eqb n 1 && isStatic block number) ≡ false → readOf (storedIn d block number a b) block n ≡ readOf d block n
+    block-kept : (d : Device) (block : ℕ) → T (storedEntry (entryOf block number)) → (eqb n 1 && isStatic block number) ≡ false
+        → readOf (storedIn d block number a b) block n ≡ readOf d block n
     unfolding readOf wordsOf storedIn entryOf entryIn ain tot ao
     block-kept d =
         by-block
-        (λ (block : ℕ). T (storedEntry (entryOf block number)) → (eqb n 1 && isStatic block number) ≡ false → readOf (storedIn d block number a b) block n ≡ readOf d block n)
+        (λ (block : ℕ). T (storedEntry (entryOf block number)) → (eqb n 1 && isStatic block number) ≡ false
+        → readOf (storedIn d block number a b) block n ≡ readOf d block n)
         (λ t r. lock-kept d t)
         (λ t r. ap (λ (w : Words). readBy w (entryIn ain n)) (ain-kept (d .ain) (unlike ain number 10 t refl) r))
         (λ t r. ap (λ (w : Words). readBy w (entryIn tot n)) (tot-kept (d .tot) (unlike tot number 10 t refl) r))
@@ -229,11 +244,13 @@ abbrev firstOf : Reading → ℕ
 firstOf (Read w) = w .first
 firstOf (Reading.Refused r) = 0
 
-stored-counts : (d : Device) (number a b rev block : ℕ) → 0 < block → T (takes (entryOf block number) a b) → readOf d block 1 ≡ Read (words rev 0) → readOf (storedIn d block number a b) block 1 ≡ Read (words (revAfter (isStatic block number) rev) 0)
+stored-counts : (d : Device) (number a b rev block : ℕ) → 0 < block → T (takes (entryOf block number) a b) → readOf d block 1 ≡ Read (words rev 0)
+    → readOf (storedIn d block number a b) block 1 ≡ Read (words (revAfter (isStatic block number) rev) 0)
 unfolding readOf wordsOf ainWords totWords aoWords entryOf entryIn ain tot ao storedIn ainWritten totWritten aoWritten
 stored-counts d number a b rev =
     by-block
-    (λ (block : ℕ). 0 < block → T (takes (entryOf block number) a b) → readOf d block 1 ≡ Read (words rev 0) → readOf (storedIn d block number a b) block 1 ≡ Read (words (revAfter (isStatic block number) rev) 0))
+    (λ (block : ℕ). 0 < block → T (takes (entryOf block number) a b) → readOf d block 1 ≡ Read (words rev 0)
+    → readOf (storedIn d block number a b) block 1 ≡ Read (words (revAfter (isStatic block number) rev) 0))
     (λ h t e. absurd (omega arith))
     (λ h t e. ap (λ (x : Reading). Read (words (revAfter (isStatic 1 number) (firstOf x)) 0)) e)
     (λ h t e. ap (λ (x : Reading). Read (words (revAfter (isStatic 2 number) (firstOf x)) 0)) e)
@@ -243,16 +260,22 @@ stored-counts d number a b rev =
 unstored-by : (e : Entry) (number a b : ℕ) → T (takes e a b) → storedEntry e ≡ false → T (unstored number e)
 unstored-by NoBlock number a b t f = t
 unstored-by NoParameter number a b t f = t
-unstored-by (Parameter class allowed) number a b t f = and-i (not (readOnly class)) (not (storedEntry (Parameter class allowed))) (and-l (not (readOnly class)) (allowsOf allowed a b) t) (subst (λ (x : Bool). T (not x)) (sym f) tt)
+unstored-by (Parameter class allowed) number a b t f =
+    and-i (not (readOnly class)) (not (storedEntry (Parameter class allowed))) (and-l (not (readOnly class)) (allowsOf allowed a b) t)
+    (subst (λ (x : Bool). T (not x)) (sym f) tt)
 
-stored-keeps : (d : Device) (block number a b block′ number′ : ℕ) → moves block number block′ number′ ≡ false → T (takes (entryOf block number) a b) → readOf (storedIn d block number a b) block′ number′ ≡ readOf d block′ number′
+stored-keeps : (d : Device) (block number a b block′ number′ : ℕ) → moves block number block′ number′ ≡ false → T (takes (entryOf block number) a b)
+    → readOf (storedIn d block number a b) block′ number′ ≡ readOf d block′ number′
 stored-keeps d block number a b block′ number′ m t = go (eqb block block′) refl (storedEntry (entryOf block number)) refl (eqb number number′) refl m
   where
-    go : (p : Bool) → eqb block block′ ≡ p → (s : Bool) → storedEntry (entryOf block number) ≡ s → (q : Bool) → eqb number number′ ≡ q → (p && (s && q || eqb number′ 1 && isStatic block number)) ≡ false → readOf (storedIn d block number a b) block′ number′ ≡ readOf d block′ number′
+    go : (p : Bool) → eqb block block′ ≡ p → (s : Bool) → storedEntry (entryOf block number) ≡ s → (q : Bool) → eqb number number′ ≡ q
+        → (p && (s && q || eqb number′ 1 && isStatic block number)) ≡ false → readOf (storedIn d block number a b) block′ number′ ≡ readOf d block′ number′
     go false e s f q g m = other-kept d block number a b number′ block′ e
     go true e false f q g m = outputs-still d a b block′ number′ block number (unstored-by (entryOf block number) number a b t f)
     go true e true f true g m = cc
-    go true e true f false g m = subst (λ (x : ℕ). readOf (storedIn d block number a b) x number′ ≡ readOf d x number′) (eqb-true block block′ e) (block-kept number number′ g a b d block (subst T (sym f) tt) m)
+    go true e true f false g m =
+        subst (λ (x : ℕ). readOf (storedIn d block number a b) x number′ ≡ readOf d x number′) (eqb-true block block′ e)
+        (block-kept number number′ g a b d block (subst T (sym f) tt) m)
 
 module _ (d : Device) (block number a b : ℕ) where
   answered : writeOf d block number a b .answer ≡ ground (standingOf d) block number a b
@@ -291,16 +314,25 @@ module _ (d : Device) (block number a b : ℕ) where
       operated : AinState
       operated = operatedState (d .ain .state) (pairOf a b)
 
-      go : (p q : Bool) → cond p (record { settings = ainSettings (d .ain .settings) number a b; state = cond q operated (d .ain .state); «st_rev» = revAfter (isStatic 1 number) (d .ain .«st_rev») }) (d .ain) .state .alarms ≡ d .ain .state .alarms
+      go : (p q : Bool) → cond p
+          (record {
+            settings = ainSettings (d .ain .settings) number a b;
+            state = cond q operated (d .ain .state);
+            «st_rev» = revAfter (isStatic 1 number) (d .ain .«st_rev»);
+          }) (d .ain) .state .alarms ≡ d .ain .state .alarms
       go true true = refl
       go true false = refl
       go false q = refl
 
   pub write-law : a < 2 ^ 32 → b < 2 ^ 32 → WriteLaw d block number a b (writeOf d block number a b)
   write-law f g = record {
-    back = λ e t. ap (λ (x : Device). readOf x block number) (stored e) ∙ stored-shown d a b block number t ∙ ap Read (taken-shown (entryOf block number) a b f g (taken e));
+    back =
+        λ e t. ap (λ (x : Device). readOf x block number) (stored e) ∙ stored-shown d a b block number t
+        ∙ ap Read (taken-shown (entryOf block number) a b f g (taken e));
     counted = λ rev e h r. ap (λ (x : Device). readOf x block 1) (stored e) ∙ stored-counts d number a b rev block h (taken e) r;
-    others = λ block′ number′ m. by-answer (λ (x : Device). readOf x block′ number′ ≡ readOf d block′ number′) refl (stored-keeps d block number a b block′ number′ m);
+    others =
+        λ block′ number′ m. by-answer (λ (x : Device). readOf x block′ number′ ≡ readOf d block′ number′) refl
+        (stored-keeps d block number a b block′ number′ m);
     refused = left-as-was;
     alarms = by-answer (λ (x : Device). x .ain .state .alarms ≡ d .ain .state .alarms) refl no-alarm;
   }

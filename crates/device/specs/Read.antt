@@ -1,4 +1,4 @@
--- What reads give, from paper 01, "Parameters" and "Refused calls". Assumes nothing.
+-- What reads give, document 01, Parameters and Refused calls. Assumes nothing.
 use Prim.Native.Nat.{ℕ, _+_, _*_}
 use mathlib.Core.Bool.{Bool, true, false, cond}
 use lib.Dec.{eqb}
@@ -19,7 +19,7 @@ use Rattle.device.specs.declared.Device.{Device}
 use Rattle.device.specs.declared.Reading.{Reading}
 use Rattle.device.specs.declared.Reading.the-variants.{Read, Refused}
 
--- "A one-word parameter needs second word 0 and reads with it."
+-- P7: a parameter of one word reads with 0 as the other
 abbrev pub code : ℕ → Words
 code n = words n 0
 
@@ -29,7 +29,7 @@ float x = words (bitsOf x) 0
 abbrev pub ends : Scale → Words
 ends s = words (bitsOf (s .low)) (bitsOf (s .high))
 
--- "OUT and TOTAL read as the value and status last given"
+-- P14b: an output reads as the pair last given
 abbrev pub given : Pair → Words
 given p = words (p .bits) (p .status)
 
@@ -37,11 +37,11 @@ abbrev pub bit : Bool → ℕ
 bit true = 1
 bit false = 0
 
--- "7 alarms R, sum of 1 HI_HI, 2 HI, 4 LO, 8 LO_LO"
+-- P11a: each alarm that stands has its bit
 unfoldable pub alarmByte : Alarms → ℕ
 alarmByte a = bit (a .«hi_hi») + 2 * bit (a .hi) + 4 * bit (a .lo) + 8 * bit (a .«lo_lo»)
 
--- each parameter beside its number; another number, which is refused before, would give 0, 0
+-- P14a: each parameter beside its number; another number, which is refused before, would give 0, 0
 unfoldable pub ainWords : AinBlock → ℕ → Words
 ainWords b number =
     cond (eqb number 1) (code (b .«st_rev»))
@@ -90,7 +90,7 @@ wordsOf d block number =
     (cond (eqb block 1) (ainWords (d .ain) number)
     (cond (eqb block 2) (totWords (d .tot) number) (aoWords (d .ao) number)))
 
--- "read 1, 2": "block over 3", "block lacks the parameter"
+-- F2 to F4: a read is refused for its block, then for its parameter
 abbrev pub readBy : Words → Entry → Reading
 readBy w NoBlock = Refused (ground 1)
 readBy w NoParameter = Refused (ground 2)

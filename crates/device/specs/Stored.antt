@@ -1,4 +1,4 @@
--- What an accepted write stores, from paper 01, "Parameters" and "History rules": each field beside its parameter's number. Assumes nothing.
+-- What an accepted write stores, document 01, Parameters and History rules: each field beside its parameter's number. Assumes nothing.
 use Prim.Native.Nat.{ℕ, _+_, _%_}
 use mathlib.Core.Bool.{Bool, cond}
 use lib.Dec.{eqb}
@@ -17,11 +17,11 @@ use Rattle.device.specs.declared.TotBlock.{TotBlock}
 use Rattle.device.specs.declared.AoBlock.{AoBlock}
 use Rattle.device.specs.declared.Device.{Device}
 
--- "Scale ends, limits, hysteresis, values and seconds are floats given by their bits; codes, ticks and statuses are whole numbers."
+-- P8: words are stored as the floats whose bits they are, codes, ticks and a status as they are; a scale is two floats
 abbrev pub scaleOf : ℕ → ℕ → Scale
 scaleOf a b = record { low = floatOf a; high = floatOf b }
 
--- "value and status"; a status that is accepted is a byte
+-- P11b: an output's words are a value's bits and a status; a status that is accepted is a byte
 abbrev pub pairOf : ℕ → ℕ → Pair
 pairOf a b = record { bits = a; status = b % 256 }
 
@@ -60,11 +60,11 @@ aoSettings s number a b = record {
   «increase_close» = cond (eqb number 36) a (s .«increase_close»);
 }
 
--- "A block's ST_REV is the number of accepted S writes to it, modulo 65,536, equal values included.": said once for all blocks
+-- R11: ST_REV after an accepted write: a static one counts, whatever it changes, and 0 follows 65,535; said once for all blocks
 unfoldable pub revAfter : Bool → ℕ → ℕ
 revAfter counted rev = cond counted ((rev + 1) % 65536) rev
 
--- a block after an accepted write. "Writes of 10 and 37 count as the operator's: AIN and AO keep that pair ..; TOTAL is set directly and its status kept for Man"
+-- P15: a block after an accepted write; one of OUT is kept as the operator's pair, one of TOTAL sets the total and keeps its status for Man
 unfoldable pub ainWritten : AinBlock → ℕ → ℕ → ℕ → AinBlock
 ainWritten block number a b = record {
   settings = ainSettings (block .settings) number a b;
@@ -86,7 +86,7 @@ aoWritten block number a b = record {
   «st_rev» = revAfter (isStatic 3 number) (block .«st_rev»);
 }
 
--- "Blocks: 0 physical, 1 AIN, 2 TOT, 3 AO."; block 0 has WRITE_LOCKING alone
+-- P1: the block written, by its number; block 0 has WRITE_LOCKING alone
 unfoldable pub storedIn : Device → ℕ → ℕ → ℕ → ℕ → Device
 storedIn d block number a b = record {
   «write_locking» = cond (eqb block 0) a (d .«write_locking»);

@@ -1,5 +1,5 @@
 // The device: the three function blocks and write protection on one value that C can hold, and the calls on it
-// (paper 01, "Calls on the device").
+// (document 01, Calls on the device).
 ghost use mathlib.Core.Path.{_≡_};
 ghost use Prim.Native.Nat.{_%_, _≤_};
 ghost use denote.Ref.{ptr};
@@ -574,7 +574,7 @@ pub fn image(d: Device, buf: &mut [u8]) -> Answer
     wire::image(buf, d.ain.state.out, d.tot.state.out, d.ao.state.out)
 }
 
-// One block's five bytes of an image, as that part of the caller's buffer.
+// One block's five bytes of an image, lent out of the buffer itself.
 pub fn part(buf: &[u8], block: u8) -> &[u8]
     ensures { λ r. ⌜ now r ≡ partOf (now (buf .entry)) block ⌝ }
     ensures { λ r. ⌜ ptr r ≡ partPlace (ptr (buf .entry)) (now (buf .entry)) block ⌝ }
@@ -582,7 +582,7 @@ pub fn part(buf: &[u8], block: u8) -> &[u8]
     wire::part(buf, block)
 }
 
-// The device's own whole number, which reads give only cut.
+// The total in thousandths, whole; a read of TOTAL gives it cut.
 pub fn total(d: Device) -> i64
     ensures { λ r. ⌜ r ≡ d .tot .state .total ⌝ }
 {

@@ -138,7 +138,7 @@ acts-same true n ifs time h = stopped-decides true n ifs time h
 acts-same false n ifs time h = unfold failSafeActs in refl
 
 module _ (h : History Event) where
-  -- "1 − f"
+  -- O9: the 1 that a fraction is taken from
   one-is : floatOf 0x3f80_0000 ≡ ofInt binary32 (pos 1)
   unfolding ofBits ofInt
   one-is = refl

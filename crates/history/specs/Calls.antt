@@ -1,4 +1,4 @@
--- The calls of a history and what is seen of them, from paper 01, "Calls on the device" and "History rules". Assumes nothing.
+-- The calls of a history and what is seen of them, document 01, Calls on the device and History rules. Assumes nothing.
 use Prim.Native.Nat.{ℕ, _^_}
 use mathlib.Core.Bool.{Bool, true, _&&_}
 use mathlib.Core.List.{List, [], _∷_}
@@ -14,14 +14,14 @@ use Rattle.device.specs.Read.{readOf}
 use Rattle.device.specs.Calls.{writeOf, tickOf, telegramOf, warmStarted}
 use Rattle.history.specs.Past.{History, start, _▷_}
 
--- a call with its arguments (reads move nothing and are left out)
+-- C2, C5 to C7: a call with its arguments (reads move nothing and are left out)
 pub data Call : Type 0 where
   tick : Bool → Pair → Pair → Call
   telegram : ℕ → List ℕ → Call
   write : ℕ → ℕ → ℕ → ℕ → Call
   warmStart : Call
 
--- "two 32-bit words"
+-- C6: the words of a write have 32 bits
 abbrev pub fitting : Call → Bool
 fitting (tick fault ain tot) = true
 fitting (telegram input bytes) = true
@@ -32,7 +32,7 @@ abbrev pub allFit : List Call → Bool
 allFit [] = true
 allFit (c ∷ cs) = fitting c && allFit cs
 
--- "The rules are fed each call's arguments and what reads of OUT in AIN and AO give after each tick": of a tick those two reads, and its answer, the drive order
+-- R2: what the rules see of a call: its arguments; of a tick also OUT of AIN and of AO as read after it, and its answer, the drive order
 pub data Event : Type 0 where
   ticked : Bool → Pair → Pair → Words → Words → Order → Event
   telegram : ℕ → List ℕ → Event
@@ -56,7 +56,8 @@ after d warmStart = warmStarted d
 unfoldable pub event : Device → Call → Event
 unfolding after
 event d (tick fault ain tot) =
-    ticked fault ain tot (seen (readOf (tickOf d fault ain tot .device) 1 10)) (seen (readOf (tickOf d fault ain tot .device) 3 37)) (tickOf d fault ain tot .order)
+    ticked fault ain tot (seen (readOf (tickOf d fault ain tot .device) 1 10)) (seen (readOf (tickOf d fault ain tot .device) 3 37))
+    (tickOf d fault ain tot .order)
 event d (telegram input bytes) = Event.telegram input bytes
 event d (write block number a b) = wrote block number a b
 event d warmStart = warmed
@@ -70,7 +71,7 @@ unfoldable pub traceFrom : Device → History Event → List Call → History Ev
 traceFrom d h [] = h
 traceFrom d h (c ∷ cs) = traceFrom (after d c) (h ▷ event d c) cs
 
--- "from the factory device"
+-- C1: the list begins with the factory device
 unfoldable pub reached : List Call → Device
 unfolding reachedFrom
 reached cs = reachedFrom factoryDevice cs

@@ -1,5 +1,6 @@
--- What the rules cite stands on both sides of the claim. So each cited definition is pinned here, beside A to I, and with them the numbers of answers and the parts of an image: as a formula for all values, in the kit's operations, and by points
--- worked by hand from paper 01. The rules' lists are compared with the table. Code and a cited definition changed together are refused here. Assumes nothing.
+-- What the rules cite stands on both sides of the claim. So each cited definition is pinned here, beside A to I, and with them the numbers of answers and
+-- the parts of an image: as a formula for all values, in the kit's operations, and by points worked by hand from document 01. The rules' lists are compared
+-- with the table. Code and a cited definition changed together are refused here. Assumes nothing.
 use Prim.Native.Nat.{ℕ, suc, _+_, _-_, _*_, _/_, _%_, _^_, min}
 use mathlib.Core.Path.{_≡_}
 use mathlib.Core.Bool.{Bool, true, false, not, _&&_, _||_, cond}
@@ -27,7 +28,8 @@ use Rattle.parameters.specs.declared.Class.the-variants.{S, N, D, R}
 use Rattle.parameters.specs.Table.{Row, rowsOf, entryOf}
 use Rattle.history.specs.Past.{History, start, _▷_}
 use Rattle.history.specs.Calls.{Event, ticked, wrote, words}
-use Rattle.history.specs.Rules.{pair, refused, allowedIn, among, statics, kepts, outputs, readOnlys, defaults, orZeros, toWrite, scaled, calculated, hi, standsWith, aoScaled, given}
+use Rattle.history.specs.Rules.{pair, refused, allowedIn, among, statics, kepts, outputs, readOnlys, defaults, orZeros, toWrite, scaled, calculated}
+use Rattle.history.specs.Rules.{hi, standsWith, aoScaled, given}
 
 -- whole numbers as singles, and the singles at the ends
 abbrev whole : ℕ → Float
@@ -87,9 +89,10 @@ Within low under high over =
 
 -- P5: a single that is finite
 abbrev Finite : ℕ → ℕ → Type 0
-Finite = Takes (λ a b. finite (floatOf a) && eqb b 0) (one 0 ∷ one largest ∷ one smallest ∷ []) (one infinity ∷ one minusInfinity ∷ one notANumber ∷ words 0 1 ∷ [])
+Finite =
+    Takes (λ a b. finite (floatOf a) && eqb b 0) (one 0 ∷ one largest ∷ one smallest ∷ []) (one infinity ∷ one minusInfinity ∷ one notANumber ∷ words 0 1 ∷ [])
 
--- P18: a single that is finite, or the one infinity (`below`: the one below all)
+-- P11h, P11i: a single that is finite, or the one infinity (`below`: the one below all)
 abbrev pub finiteOr : Bool → Float → Bool
 finiteOr below nan = false
 finiteOr true (inf negative) = negative
@@ -100,15 +103,18 @@ abbrev Limit : Bool → ℕ → ℕ → ℕ → ℕ → Type 0
 Limit below this other =
     Takes (λ a b. finiteOr below (floatOf a) && eqb b 0) (one this ∷ one largest ∷ one smallest ∷ one 0 ∷ []) (one other ∷ one notANumber ∷ words this 1 ∷ [])
 
--- P13: two finite ends, unequal as numbers
+-- P11c: two finite ends, unequal as numbers
 abbrev Ends : ℕ → ℕ → Type 0
 Ends =
-    Takes (λ a b. finite (floatOf a) && finite (floatOf b) && ne (floatOf a) (floatOf b)) (words 0 0x42c8_0000 ∷ words 0x42c8_0000 0 ∷ words 0 1 ∷ words largest smallest ∷ [])
+    Takes (λ a b. finite (floatOf a) && finite (floatOf b) && ne (floatOf a) (floatOf b))
+    (words 0 0x42c8_0000 ∷ words 0x42c8_0000 0 ∷ words 0 1 ∷ words largest smallest ∷ [])
     (words 0 0 ∷ words 0 0x8000_0000 ∷ words infinity 0 ∷ words 0 minusInfinity ∷ words notANumber 0 ∷ words 0 notANumber ∷ [])
 
--- P12: a finite value and a status byte
+-- P11b: a finite value and a status byte
 abbrev Output : ℕ → ℕ → Type 0
-Output = Takes (λ a b. finite (floatOf a) && leb b 255) (words largest 255 ∷ words smallest 0 ∷ []) (words infinity 0 ∷ words minusInfinity 0 ∷ words notANumber 0 ∷ words 0 256 ∷ [])
+Output =
+    Takes (λ a b. finite (floatOf a) && leb b 255) (words largest 255 ∷ words smallest 0 ∷ [])
+    (words infinity 0 ∷ words minusInfinity 0 ∷ words notANumber 0 ∷ words 0 256 ∷ [])
 
 -- ---- whole numbers
 
@@ -137,7 +143,8 @@ classed R block number = among (readOnlys block) number
 -- a row is in the list of its class, and a stored one has the default of the rules
 abbrev listed : ℕ → Row → Bool
 listed block r = classed (r .class) block (r .number)
-    && (not (among (statics block ++ kepts block) (r .number)) || eqb (r .default .first) (orZeros (defaults block) (r .number) .first) && eqb (r .default .second) (orZeros (defaults block) (r .number) .second))
+    && (not (among (statics block ++ kepts block) (r .number))
+    || eqb (r .default .first) (orZeros (defaults block) (r .number) .first) && eqb (r .default .second) (orZeros (defaults block) (r .number) .second))
 
 abbrev allListed : ℕ → List Row → Bool
 allListed block [] = true
@@ -151,7 +158,8 @@ Agrees block = (allListed block (rowsOf block) ≡ true) × (length (rowsOf bloc
 
 -- PV_SCALE 4, 20 and OUT_SCALE 3, 15 in AO and AIN
 abbrev scales : History Event
-scales = start ▷ wrote 3 11 0x4080_0000 0x41a0_0000 ▷ wrote 3 38 0x4040_0000 0x4170_0000 ▷ wrote 1 11 0x4080_0000 0x41a0_0000 ▷ wrote 1 12 0x4040_0000 0x4170_0000
+scales =
+    start ▷ wrote 3 11 0x4080_0000 0x41a0_0000 ▷ wrote 3 38 0x4040_0000 0x4170_0000 ▷ wrote 1 11 0x4080_0000 0x41a0_0000 ▷ wrote 1 12 0x4040_0000 0x4170_0000
 
 -- both of AIN's scales 0, 64, PV_FTIME 0.5
 abbrev filters : History Event
@@ -165,9 +173,10 @@ abbrev numbered : ℕ → ℕ
 numbered n = answerNumber (refused n)
 
 pub record Cited : Type 0 where
-  -- B, C and D once more, of the rules' own words, whatever else the ticks carry: PV_SCALE 4, 20 and input 12 give 50 with 0x80; a filter step is `down` and `up` below;
-  -- OUT 80 raises HI, after it 79.5 keeps it and 79.25 clears it
-  pub measured : (tot : Pair) (w x : Words) (o : Order) → given 1 (start ▷ wrote 1 11 0x4080_0000 0x41a0_0000 ▷ ticked false (pair 0x4140_0000 0x80) tot w x o) ≡ pair 0x4248_0000 0x80
+  -- B, C and D once more, of the rules' own words, whatever else the ticks carry: PV_SCALE 4, 20 and input 12 give 50 with 0x80; a filter step is `down`
+  -- and `up` below; OUT 80 raises HI, after it 79.5 keeps it and 79.25 clears it
+  pub measured : (tot : Pair) (w x : Words) (o : Order)
+      → given 1 (start ▷ wrote 1 11 0x4080_0000 0x41a0_0000 ▷ ticked false (pair 0x4140_0000 0x80) tot w x o) ≡ pair 0x4248_0000 0x80
   pub alarm : (ain tot : Pair) (status : ℕ) (x : Words) (o : Order)
       → (standsWith hi limited 0x42a0_0000 ≡ true)
       × (standsWith hi (limited ▷ ticked false ain tot (words 0x42a0_0000 status) x o) 0x429f_0000 ≡ true)
@@ -192,8 +201,9 @@ pub record Cited : Type 0 where
   -- from 12 to 0, by 6: 12 − 2; and from 0 to 12: 2
   pub down : calculated filters (Option.some (whole 12)) (pair 0 0x80) ≡ whole 10
   pub up : calculated filters (Option.some (whole 0)) (pair 0x4140_0000 0x80) ≡ whole 2
-  -- 10^7 × 100 is the end; the next single and the largest one go no further, either way. 9,999,999 × 100 rounds to 999,999,872. 0.29's single × 100 rounds to 29
-  pub increments : (incrementOf (whole 10_000_000) ≡ pos (10 ^ 9)) × (incrementOf (whole 10_000_001) ≡ pos (10 ^ 9)) × (incrementOf (floatOf largest) ≡ pos (10 ^ 9))
+  -- 10^7 × 100 is the end; the next single and the largest one go no further, either way. 9,999,999 × 100 rounds to 999,999,872, 0.29's single × 100 to 29
+  pub increments : (incrementOf (whole 10_000_000) ≡ pos (10 ^ 9)) × (incrementOf (whole 10_000_001) ≡ pos (10 ^ 9))
+      × (incrementOf (floatOf largest) ≡ pos (10 ^ 9))
       × (incrementOf (floatOf 0xcb18_9681) ≡ negsuc 999_999_999) × (incrementOf (floatOf smallest) ≡ negsuc 999_999_999)
       × (incrementOf (whole 9_999_999) ≡ pos 999_999_872) × (incrementOf (floatOf 0x3e94_7ae1) ≡ pos 29)
   -- both ends of the sum, and a sum below 0
@@ -202,15 +212,17 @@ pub record Cited : Type 0 where
   -- −3 / 2048 × 1000 is −1.46.., cut −1; 0.29's single × 1000 rounds to 290; ±10^9 × 1000 to the multiple of 65,536 next to ±10^12
   pub thousandths : (thousandthsOf (floatOf 0xbac0_0000) ≡ negsuc 0) × (thousandthsOf (floatOf 0x3e94_7ae1) ≡ pos 290)
       × (thousandthsOf (floatOf 0x4e6e_6b28) ≡ pos 999_999_995_904) × (thousandthsOf (floatOf 0xce6e_6b28) ≡ negsuc 999_999_995_903)
-  -- a negative total loses the bits of its magnitude: −16,777,217 is given as −16,777,216 / 1000; 10^12 and 290 thousandths
-  pub values : (valueGiven (negsuc 16_777_216) ≡ div binary32 (ofInt binary32 (negsuc 16_777_215)) (whole 1000)) × (valueGiven (pos (10 ^ 12)) ≡ floatOf 0x4e6e_6b28)
+  -- a negative total loses the bits of its magnitude: −16,777,217 leads to −16,777,216 / 1000; 10^12 and 290 thousandths
+  pub values : (valueGiven (negsuc 16_777_216) ≡ div binary32 (ofInt binary32 (negsuc 16_777_215)) (whole 1000))
+      × (valueGiven (pos (10 ^ 12)) ≡ floatOf 0x4e6e_6b28)
       × (valueGiven (pos 290) ≡ floatOf 0x3e94_7ae1) × (valueGiven (pos 0) ≡ floatOf 0)
   -- bits, bytes, status bytes and the numbers of refusals
   pub bits : (floatOf 0x4248_0000 ≡ whole 50) × (bitsOf (whole 50) ≡ 0x4248_0000) × (bitsOf (floatOf 0x8000_0000) ≡ 0x8000_0000)
   pub bytes : (fiveBytes (pair 0x0102_0304 5) ≡ 1 ∷ 2 ∷ 3 ∷ 4 ∷ 5 ∷ []) × (pairOf (1 ∷ 2 ∷ 3 ∷ 4 ∷ 5 ∷ []) ≡ Received.Value (pair 0x0102_0304 5))
   pub statuses : (qualityOf 0xa3 ≡ 2) × (subStatusOf 0xa3 ≡ 8) × (qualityOf 0xc4 ≡ 3) × (subStatusOf 0xc4 ≡ 1)
   -- F1: the number of an answer: that of its ground, 0 if it is accepted
-  pub numbers : (answerNumber Accepted ≡ 0) × (numbered 1 ≡ 1) × (numbered 2 ≡ 2) × (numbered 3 ≡ 3) × (numbered 4 ≡ 4) × (numbered 5 ≡ 5) × (numbered 6 ≡ 6) × (numbered 7 ≡ 7) × (numbered 8 ≡ 8)
+  pub numbers : (answerNumber Accepted ≡ 0) × (numbered 1 ≡ 1) × (numbered 2 ≡ 2) × (numbered 3 ≡ 3) × (numbered 4 ≡ 4) × (numbered 5 ≡ 5)
+      × (numbered 6 ≡ 6) × (numbered 7 ≡ 7) × (numbered 8 ≡ 8)
   -- B2: a block's five bytes of a buffer with room for an image, and where they lie: five for each block before it behind the buffer's front
   pub part : (s : List ℕ) (block : ℕ) (place : ℕ × ℕ)
       → (partOf s block ≡ cond (leb 15 (length s) && leb 1 block && leb block 3) (take 5 (drop (5 * (block - 1)) s)) [])
@@ -225,12 +237,15 @@ pub record Cited : Type 0 where
   -- 0 to 3600, and ±10^9
   pub ranges : Within 0 0x8000_0001 0x4561_0000 0x4561_0001 1 16 × Within 0xce6e_6b28 0xce6e_6b29 0x4e6e_6b28 0x4e6e_6b29 2 16
   pub finites : Finite 1 18 × Finite 3 25
-  -- P17: finite and not below 0
-  pub hysteresis : Takes (λ a b. (finite (floatOf a) && le (floatOf 0) (floatOf a)) && eqb b 0) (one 0 ∷ one 0x8000_0000 ∷ one largest ∷ []) (one 0x8000_0001 ∷ one infinity ∷ one notANumber ∷ words 0 1 ∷ []) 1 19
-  pub limits : Limit false infinity minusInfinity 1 21 × Limit false infinity minusInfinity 1 23 × Limit true minusInfinity infinity 1 25 × Limit true minusInfinity infinity 1 27
+  -- P11g: finite and not below 0
+  pub hysteresis : Takes (λ a b. (finite (floatOf a) && le (floatOf 0) (floatOf a)) && eqb b 0) (one 0 ∷ one 0x8000_0000 ∷ one largest ∷ [])
+      (one 0x8000_0001 ∷ one infinity ∷ one notANumber ∷ words 0 1 ∷ []) 1 19
+  pub limits : Limit false infinity minusInfinity 1 21 × Limit false infinity minusInfinity 1 23 × Limit true minusInfinity infinity 1 25
+      × Limit true minusInfinity infinity 1 27
   pub outs : Output 1 10 × Output 3 37
-  -- P19: ±10^9, and a status byte
-  pub totals : Takes (λ a b. (le (floatOf 0xce6e_6b28) (floatOf a) && le (floatOf a) (floatOf 0x4e6e_6b28)) && leb b 255) (words 0x4e6e_6b28 255 ∷ words 0xce6e_6b28 0 ∷ [])
+  -- P12a: ±10^9, and a status byte
+  pub totals : Takes (λ a b. (le (floatOf 0xce6e_6b28) (floatOf a) && le (floatOf a) (floatOf 0x4e6e_6b28)) && leb b 255)
+      (words 0x4e6e_6b28 255 ∷ words 0xce6e_6b28 0 ∷ [])
       (words 0x4e6e_6b29 0 ∷ words 0xce6e_6b29 0 ∷ words notANumber 0 ∷ words 0 256 ∷ []) 2 10
   -- the table's rows and the rules' lists
   pub table : Agrees 0 × Agrees 1 × Agrees 2 × Agrees 3

@@ -1,4 +1,4 @@
--- The claim of demand 3, from paper 01, "History rules": one statement about a whole list of calls, refused ones included, from the factory device. Assumes nothing.
+-- The claim of demand 3, document 01, History rules: one statement about a whole list of calls, refused ones too, from the factory device. Assumes nothing.
 use Prim.Native.Nat.{ℕ}
 use mathlib.Core.Path.{_≡_}
 use mathlib.Core.Bool.{Bool, _&&_}
@@ -47,7 +47,7 @@ answers d warmStart = Accepted
 pub record Claimed (calls : List Call) (h : History Event) : Type 0 where
   -- every read of every block and number, refusals included
   pub reads : (block number : ℕ) → readOf (reached calls) block number ≡ reading h block number
-  -- the total, as the device's own whole number
+  -- R9: the total itself, of which a read gives the highest bits
   pub total : reached calls .tot .state .total ≡ total h
   -- each tick of the list
   pub ticks : Each Tick h

@@ -86,7 +86,8 @@ more c (some cs) = some (c ∷ cs)
 unfoldable pub callsFrom : ℕ → List ℕ → ℕ → Option (List Call)
 callsFrom zero s at = cond (ltb at (length s)) none (some [])
 callsFrom (suc left) s at =
-    cond (ltb at (length s)) (cond (isMalformed (stepAt s at .step)) none (more (callOf s at (stepAt s at .step)) (callsFrom left s (stepAt s at .next)))) (some [])
+    cond (ltb at (length s)) (cond (isMalformed (stepAt s at .step)) none (more (callOf s at (stepAt s at .step)) (callsFrom left s (stepAt s at .next))))
+    (some [])
 
 -- the list of calls that the bytes stand for: a call has at least one byte
 unfoldable pub decoded : List ℕ → Option (List Call)

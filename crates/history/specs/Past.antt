@@ -1,5 +1,5 @@
--- Past-time words over a history of events, oldest on the left: in `h ▷ e` the event e came after all of h. Each word is a short recursion; what the words mean is proved in
--- `PastLaws`. Assumes nothing.
+-- Past-time words over a history of events, oldest on the left: in `h ▷ e` the event e came after all of h. Each word is a short recursion; what the words
+-- mean is proved in `PastLaws`. Assumes nothing.
 use Prim.Native.Nat.{ℕ, _+_}
 use mathlib.Core.Bool.{Bool, false, not, _&&_, _||_, cond}
 use mathlib.Core.Option.{Option, none, some}

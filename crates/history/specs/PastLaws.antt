@@ -51,12 +51,18 @@ module _ {E : Type 0} where
         go old (inl r) = record { before = h; event = x; raises = r; stands = here }
         go old (inr s) =
             let o = old (and-first (since raised cleared h) (not (cleared h x)) s) in
-            record { before = o .before; event = o .event; raises = o .raises; stands = later (o .stands) (false-of (cleared h x) (and-second (since raised cleared h) (not (cleared h x)) s)) }
+            record {
+              before = o .before;
+              event = o .event;
+              raises = o .raises;
+              stands = later (o .stands) (false-of (cleared h x) (and-second (since raised cleared h) (not (cleared h x)) s));
+            }
 
     pub since-holds : (p : History E) (x : E) (h : History E) → raised p x ≡ true → From (λ p e. cleared p e ≡ false) (p ▷ x) h → since raised cleared h ≡ true
     unfolding since
     since-holds p x h r here = ap (λ (b : Bool). b || (since raised cleared p && not (cleared p x))) r
-    since-holds p x h r (later {h = q} {e = y} f c) = or-right (raised q y) (since raised cleared q && not (cleared q y)) (ap (λ (b : Bool). b && not (cleared q y)) (since-holds p x q r f) ∙ ap not c)
+    since-holds p x h r (later {h = q} {e = y} f c) =
+        or-right (raised q y) (since raised cleared q && not (cleared q y)) (ap (λ (b : Bool). b && not (cleared q y)) (since-holds p x q r f) ∙ ap not c)
 
   -- ---- latest
 

@@ -1,4 +1,4 @@
--- Paper 01's "Points on the curve", A to I, over the rules themselves. Assumes nothing.
+-- Document 01, Points on the curve, A to I, over the rules themselves. Assumes nothing.
 use Prim.Native.Nat.{ℕ, zero, suc}
 use mathlib.Core.Path.{_≡_}
 use mathlib.Core.Bool.{Bool, true, false}
@@ -33,24 +33,29 @@ abbrev setpoint50 : History Event
 setpoint50 = start ▷ wrote 3 23 2 0 ▷ telegram 0 (0x42 ∷ 0x48 ∷ 0 ∷ 0 ∷ 0x80 ∷ [])
 
 pub record Points : Type 0 where
-  -- "A 0x4E is quality 1, sub-status 3, limit 2."
+  -- K1: the parts of a status byte
   pub a : (qualityOf 0x4e ≡ 1) × (subStatusOf 0x4e ≡ 3) × (limitsOf 0x4e ≡ 2)
-  -- "B PV_SCALE 4, 20, input 12, 0x80: bytes 42 48 00 00 80."
-  pub b : (tot : Pair) → fiveBytes (reached (write 1 11 0x4080_0000 0x41a0_0000 ∷ tick false (record { bits = 0x4140_0000; status = 0x80 }) tot ∷ []) .ain .state .out) ≡ 0x42 ∷ 0x48 ∷ 0x00 ∷ 0x00 ∷ 0x80 ∷ []
-  -- "C both scales 0, 64, PV_FTIME 1.5, PV 0, input 32: PV 2."
-  pub c : filtered (floatOf 0x3fc0_0000) (kept (whole 0)) (scaledOf (record { low = whole 0; high = whole 64 }) (record { low = whole 0; high = whole 64 }) (whole 32)) ≡ whole 2
-  -- "D HI_LIM 80: 80 raises, 79.5 keeps, 79.25 clears."
-  pub d : (alarmStands false false (whole 80) (floatOf 0x3f00_0000) (whole 80) ≡ true) × (alarmStands false true (whole 80) (floatOf 0x3f00_0000) (floatOf 0x429f_0000) ≡ true) × (alarmStands false true (whole 80) (floatOf 0x3f00_0000) (floatOf 0x429e_8000) ≡ false)
-  -- "E rate 0.015625 adds 1. F −0.015625 adds −1."
+  -- K2: an input at half of PV_SCALE, as bytes on the bus
+  pub b : (tot : Pair)
+      → fiveBytes (reached (write 1 11 0x4080_0000 0x41a0_0000 ∷ tick false (record { bits = 0x4140_0000; status = 0x80 }) tot ∷ []) .ain .state .out)
+      ≡ 0x42 ∷ 0x48 ∷ 0x00 ∷ 0x00 ∷ 0x80 ∷ []
+  -- K3: a filter step by a sixteenth
+  pub c : filtered (floatOf 0x3fc0_0000) (kept (whole 0))
+      (scaledOf (record { low = whole 0; high = whole 64 }) (record { low = whole 0; high = whole 64 }) (whole 32)) ≡ whole 2
+  -- K4: an alarm is raised at its limit, still stands where OUT is back by the hysteresis, and falls below that
+  pub d : (alarmStands false false (whole 80) (floatOf 0x3f00_0000) (whole 80) ≡ true)
+      × (alarmStands false true (whole 80) (floatOf 0x3f00_0000) (floatOf 0x429f_0000) ≡ true)
+      × (alarmStands false true (whole 80) (floatOf 0x3f00_0000) (floatOf 0x429e_8000) ≡ false)
+  -- K5, K6: a sixty-fourth a second is 1.5625 thousandths a tick, cut to 1 on both sides of 0
   pub e : incrementOf (floatOf 0x3c80_0000) ≡ pos 1
   pub f : incrementOf (floatOf 0xbc80_0000) ≡ negsuc 0
-  -- "G total 16,777,217 is given as 16,777,216 / 1000."
+  -- K7: the 25th bit of a total is not given
   pub g : valueGiven (pos 16_777_217) ≡ div binary32 (whole 16_777_216) (whole 1000)
-  -- "H FSAFE_TIME 2: after a usable telegram ticks 1 to 3 follow it, tick 4 is fail-safe.", whatever else the ticks carry
+  -- K8: under FSAFE_TIME 2 three ticks follow a usable telegram and the fourth is fail-safe, whatever else the ticks carry
   pub h : (fault₁ fault₂ fault₃ : Bool) (ain₁ ain₂ ain₃ tot₁ tot₂ tot₃ : Pair) (w₁ w₂ w₃ x₁ x₂ x₃ : Words) (o₁ o₂ o₃ : Order)
       → (isFailSafe 0 setpoint50 ≡ false)
       × (isFailSafe 0 (setpoint50 ▷ ticked fault₁ ain₁ tot₁ w₁ x₁ o₁) ≡ false)
       × (isFailSafe 0 (setpoint50 ▷ ticked fault₁ ain₁ tot₁ w₁ x₁ o₁ ▷ ticked fault₂ ain₂ tot₂ w₂ x₂ o₂) ≡ false)
       × (isFailSafe 0 (setpoint50 ▷ ticked fault₁ ain₁ tot₁ w₁ x₁ o₁ ▷ ticked fault₂ ain₂ tot₂ w₂ x₂ o₂ ▷ ticked fault₃ ain₃ tot₃ w₃ x₃ o₃) ≡ true)
-  -- "I 65,536 equal accepted S writes: ST_REV 0.": they are accepted, and are counted so
+  -- K9: as many static writes as ST_REV has values, all the same: they are accepted, and ST_REV is 0 again
   pub i : (accepted (again 65536 (wrote 1 17 1 0) start) ≡ again 65536 (wrote 1 17 1 0) start) × (stRev (again 65536 (wrote 1 17 1 0) start) 1 ≡ 0)

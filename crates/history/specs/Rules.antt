@@ -1,5 +1,6 @@
--- The history rules of paper 01: what the head answers, from the accepted events alone (R2): the arguments of calls, and what reads of OUT in AIN and AO gave after each tick.
--- Every memory and every choice is said here. What is cited of other crates, arithmetic, encodings and the table's allowed words, is listed in tests/cited and pinned in Cited.
+-- The history rules of document 01: what the head answers, from the accepted events alone (R2): the arguments of calls, and OUT of AIN and AO as read
+-- after each tick. Every memory and every choice is said here. What is cited of other crates, arithmetic, encodings and the table's allowed words, is listed
+-- in tests/cited and pinned in Cited.
 -- A letter and number before a colon is a sentence of the paper, as docs/TRACE.md counts them. Assumes nothing.
 use Prim.Native.Nat.{ℕ, _+_, _*_, _%_}
 use mathlib.Core.Bool.{Bool, true, false, not, _&&_, _||_, cond}
@@ -65,20 +66,20 @@ pair bits status = record { bits = bits; status = status }
 abbrev pub ofBlock : {A : Type 0} → A → A → A → A → A → ℕ → A
 ofBlock physical ain tot ao other block = cond (eqb block 0) physical (cond (eqb block 1) ain (cond (eqb block 2) tot (cond (eqb block 3) ao other)))
 
--- P3, P10 to P27: the static parameters of AIN (TARGET_MODE, both scales, PV_FTIME, type and value of the fail-safe, ALARM_HYS, four limits), of TOT (TARGET_MODE, FAIL_TOT,
--- PRESET_TOT) and of AO (TARGET_MODE, PV_SCALE, time, type and value of the fail-safe, INCREASE_CLOSE, OUT_SCALE)
+-- P3, P10 to P13e: the static parameters of AIN (TARGET_MODE, both scales, PV_FTIME, type and value of the fail-safe, ALARM_HYS, four limits), of TOT
+-- (TARGET_MODE, FAIL_TOT, PRESET_TOT) and of AO (TARGET_MODE, PV_SCALE, time, type and value of the fail-safe, INCREASE_CLOSE, OUT_SCALE)
 unfoldable pub statics : ℕ → List ℕ
 statics = ofBlock [] (5 ∷ 11 ∷ 12 ∷ 16 ∷ 17 ∷ 18 ∷ 19 ∷ 21 ∷ 23 ∷ 25 ∷ 27 ∷ []) (5 ∷ 15 ∷ 16 ∷ []) (5 ∷ 11 ∷ 23 ∷ 24 ∷ 25 ∷ 36 ∷ 38 ∷ []) []
 
--- P3, P9, P20, P21: those that are kept and not counted: WRITE_LOCKING; SET_TOT and MODE_TOT. TOTAL, which is kept too, is among the outputs
+-- P3, P9, P12b, P12c: those that are kept and not counted: WRITE_LOCKING; SET_TOT and MODE_TOT. TOTAL, which is kept too, is among the outputs
 unfoldable pub kepts : ℕ → List ℕ
 kepts = ofBlock (18 ∷ []) [] (13 ∷ 14 ∷ []) [] []
 
--- P12, P19, P28: OUT of AIN, TOTAL, OUT of AO
+-- P11b, P12a, P13f: OUT of AIN, TOTAL, OUT of AO
 unfoldable pub outputs : ℕ → List ℕ
 outputs = ofBlock [] (10 ∷ []) (10 ∷ []) (37 ∷ []) []
 
--- P3, P10, P11: read only are ST_REV and the actual mode, in AIN also the alarms
+-- P3, P10, P11a: read only are ST_REV and the actual mode, in AIN also the alarms
 unfoldable pub readOnlys : ℕ → List ℕ
 readOnlys = ofBlock [] (1 ∷ 6 ∷ 7 ∷ []) (1 ∷ 6 ∷ []) (1 ∷ 6 ∷ []) []
 
@@ -125,7 +126,7 @@ orElse other (some a) = a
 abbrev pub never : Event → Bool
 never e = false
 
--- R10, P29: a stored parameter has the words of the last accepted write to it, before any its default; a warm start leaves it (R17)
+-- R10, P14a: a stored parameter has the words of the last accepted write to it, before any its default; a warm start leaves it (R17)
 unfoldable pub stored : History Event → ℕ → ℕ → Words
 stored h block number = orElse (orZeros (defaults block) number) (latest (wordsTo block number) never h)
 
@@ -179,8 +180,8 @@ allowedIn (Parameter class allowed) a b = allowsOf allowed a b
 abbrev pub refused : ℕ → Answer
 refused n = Refused (ground n)
 
--- F2 to F8: the grounds on which a write is refused, the first that is met: there is no such block (1); it has no such parameter (2); that one is read only (3); the device
--- is locked and it isn't the lock (4); its words are not allowed (5); it is an output and the block's target isn't Man (6)
+-- F2 to F8: the grounds on which a write is refused, the first that is met: there is no such block (1); it has no such parameter (2); that one is read only
+-- (3); the device is locked and it isn't the lock (4); its words are not allowed (5); it is an output and the block's target isn't Man (6)
 unfoldable pub toWrite : History Event → ℕ → ℕ → ℕ → ℕ → Answer
 toWrite h block number a b =
     cond (ltb 3 block) (refused 1)
@@ -224,7 +225,7 @@ stRev h block = count (isStaticWrite block) h % 65536
 
 -- ---- what the operator wrote, and old OUT
 
--- P31, R17: the pair that the operator last wrote to OUT or TOTAL since start, before one 0 with 0x4C; of TOTAL's only the status is used
+-- P15, R17: the pair that the operator last wrote to OUT or TOTAL since start, before one 0 with 0x4C; of TOTAL's only the status is used
 unfoldable pub operator : ℕ → History Event → Pair
 operator block h = written (latest (wordsTo block (cond (eqb block 3) 37 10)) isStart h)
   where
@@ -238,8 +239,8 @@ oldOut block = carried 0 (λ h e old. onTick (λ fault ain tot ainOut aoOut. con
 
 -- ---- input status
 
--- A5, A6: the Bad status of a tick's input, and none where it is usable. Good Cascade is taken for 0x04, a Bad byte as it came; then a value that isn't finite gives 0x10,
--- and a calculation that isn't 0x04. The flags say whether the value, and what is calculated of it, is finite
+-- A5, A6: the Bad status of a tick's input, and none where it is usable. Good Cascade is taken for 0x04, a Bad byte as it came; then it is 0x10 if the
+-- value isn't finite, and 0x04 if what is calculated of it isn't. The flags say whether the value, and what is calculated of it, is finite
 unfoldable pub badStatus : ℕ → Bool → Bool → Option ℕ
 badStatus status value calculated =
     cond (eqb (qualityOf status) 3) (some 0x04)
@@ -257,7 +258,8 @@ ifUsable (some bad) a other = other
 unfoldable pub scaled : History Event → Pair → Float
 scaled h ain = atFraction (scale h 1 12) (fractionOf (scale h 1 11) (floatOf (ain .bits)))
 
--- A2: a filter step from the filter value towards the scaled value, by the ticks in PV_FTIME and one; without a filter value, or with PV_FTIME 0, the scaled value itself
+-- A2: a filter step from the filter value towards the scaled value, by the ticks in PV_FTIME and one; without a filter value, or with PV_FTIME 0, the
+-- scaled value itself
 abbrev pub filteredBy : Float → Float → Option Float → Float
 filteredBy time x none = x
 filteredBy time x (some pv) =
@@ -272,7 +274,7 @@ calculated h filter ain = filteredBy (float h 1 16) (scaled h ain) filter
 unfoldable pub ainBad : History Event → Option Float → Pair → Option ℕ
 ainBad h filter ain = badStatus (ain .status) (finite (floatOf (ain .bits))) (finite (scaled h ain) && finite (calculated h filter ain))
 
--- A3, R7: the filter value is the calculated value of the last usable Auto tick, if no tick in another mode and no start came since
+-- A3, R7: the filter value is what the latest usable Auto tick calculated, if no tick in another mode and no start came since
 unfoldable pub filterValue : History Event → Option Float
 filterValue =
     carried none
@@ -280,7 +282,7 @@ filterValue =
     (λ fault ain tot ainOut aoOut. cond (isAuto h fault 1) (ifUsable (ainBad h old ain) (some (calculated h old ain)) old) none)
     none old e)
 
--- A8, R7: the calculated value of the last usable Auto tick since start, whatever the modes of later ticks
+-- A8, R7: what the latest usable Auto tick since start calculated, whatever the modes of later ticks
 unfoldable pub lastUsable : History Event → Option Float
 lastUsable =
     carried none
@@ -330,7 +332,7 @@ clears a h = onTick (λ fault ain tot ainOut aoOut. isOut h fault 1 || leftBy a 
 unfoldable pub stands : Alarm → History Event → Bool
 stands a h = since (raises a) (clears a) h
 
--- P11: 1 for HI_HI, 2 for HI, 4 for LO, 8 for LO_LO
+-- P11a: 1 for HI_HI, 2 for HI, 4 for LO, 8 for LO_LO
 unfoldable pub alarmSum : History Event → ℕ
 alarmSum h = cond (stands hiHi h) 1 0 + cond (stands hi h) 2 0 + cond (stands lo h) 4 0 + cond (stands loLo h) 8 0
 
@@ -347,8 +349,8 @@ alarmed h bits status =
     (cond (standsWith hi h bits) 0x8a
     (cond (standsWith lo h bits) 0x89 status))))
 
--- A8: an Auto tick that isn't usable, by FSAFE_TYPE: 0 gives FSAFE_VALUE, 0x48; 1 the last usable value, 0x44, or 0 with 0x4C where there is none; 2 gives the scaled value,
--- or old OUT if that isn't finite, with the Bad status
+-- A8: an Auto tick that isn't usable, by FSAFE_TYPE: 0 gives FSAFE_VALUE with 0x48; 1 the value that was last usable with 0x44, and 0 with 0x4C without one;
+-- 2 gives the scaled value, or old OUT if that isn't finite, with the Bad status
 unfoldable pub ainFailSafe : History Event → Pair → ℕ → Pair
 ainFailSafe h ain bad =
     cond (eqb (code h 1 17) 0) (pair (bitsOf (float h 1 18)) 0x48)
@@ -374,16 +376,18 @@ ainGives h fault ain = cond (isAuto h fault 1) (ainAuto h ain (ainBad h (filterV
 unfoldable pub totBad : Pair → Option ℕ
 totBad tot = badStatus (tot .status) (finite (floatOf (tot .bits))) true
 
--- T7, R7: the rate of the last usable Auto tick since start
+-- T7, R7: the rate of the latest usable Auto tick since start
 unfoldable pub rateValue : History Event → Option Float
 rateValue =
-    carried none (λ h e old. onTick (λ fault ain tot ainOut aoOut. cond (isAuto h fault 2) (ifUsable (totBad tot) (some (floatOf (tot .bits))) old) old) none old e)
+    carried none (λ h e old. onTick
+    (λ fault ain tot ainOut aoOut. cond (isAuto h fault 2) (ifUsable (totBad tot) (some (floatOf (tot .bits))) old) old) none old e)
 
--- T3, P21: MODE_TOT 0 takes an increment of either sign, 1 those not below 0, 2 those below 0, 3 none
+-- T3, P12c: MODE_TOT 0 takes an increment of either sign, 1 those not below 0, 2 those below 0, 3 none
 unfoldable pub wantedBy : ℕ → ℤ → ℤ
 wantedBy mode z = cond (eqb mode 0 || eqb mode 1 && not (ltZ z (pos 0)) || eqb mode 2 && ltZ z (pos 0)) z (pos 0)
 
--- T6, T7: the rate that an Auto tick adds by: the input's where it is usable, else by FAIL_TOT: 0 the input's if it is finite, 1 none, 2 the last usable one, if any
+-- T6, T7: the rate that an Auto tick adds by: the input's where it is usable, else by FAIL_TOT: 0 the input's if it is finite, 1 none, 2 the last usable
+-- one, if any
 abbrev pub addedRate : History Event → Pair → Option ℕ → Option Float
 addedRate h tot none = some (floatOf (tot .bits))
 addedRate h tot (some bad) =
@@ -413,8 +417,8 @@ totalAfter h warmed total = total
 unfoldable pub total : History Event → ℤ
 total = carried (pos 0) totalAfter
 
--- T5, T7, T8: the status of an Auto tick: the input's where it is usable; else the Bad status under FAIL_TOT 0 and while SET_TOT is not 0, 0x40 under 1, and under 2 0x44,
--- or 0x4C without a remembered rate
+-- T5, T7, T8: the status of an Auto tick: the input's where it is usable; else the Bad status under FAIL_TOT 0 and while SET_TOT is not 0, 0x40 under 1,
+-- and under 2 0x44, or 0x4C without a remembered rate
 abbrev pub totStatus : History Event → ℕ → Option ℕ → ℕ
 totStatus h status none = status
 totStatus h status (some bad) =
@@ -448,7 +452,7 @@ abbrev pub holds : (Pair → Bool) → Option Pair → Bool
 holds p none = false
 holds p (some x) = p x
 
--- O1: a telegram of either Good quality is an initiate-fail-safe (IFS) if its sub-status is 8; if not, it is usable where its value is finite. O2: all others are nothing
+-- O1: a telegram of either Good quality is IFS (initiate-fail-safe) by sub-status 8, and by another usable if its value is finite. O2: others are nothing
 abbrev pub isGood : ℕ → Bool
 isGood status = eqb (qualityOf status) 2 || eqb (qualityOf status) 3
 
@@ -480,7 +484,7 @@ setpointOn input e = cond (isUsableOn input e) (bitsOn (pairOn input e)) none
 unfoldable pub setpoint : ℕ → History Event → Float
 setpoint input h = orElse (floatOf 0) (latest (setpointOn input) isStart h)
 
--- O4: n, the ticks since the last usable telegram on an input, whatever their mode
+-- O4: n, the ticks after an input's last usable telegram, whatever their mode
 unfoldable pub silence : ℕ → History Event → ℕ
 silence input h = countSince isTick (isUsableOn input) h
 
@@ -512,7 +516,8 @@ aoScaled h w = atFraction (scale h 3 38) (cond (eqb (code h 3 36) 1) (sub binary
 unfoldable pub working : History Event → Float → ℕ → Given
 working h w status = cond (finite (aoScaled h w)) (positioned (bitsOf (aoScaled h w)) status) (positioned (oldOut 3 h) 0x04)
 
--- O7, O8: the fail-safe by FSAFE_TYPE: 0 works by FSAFE_VALUE, 0x48; 1 by the last usable telegram, 0x44, and without one keeps OUT, 0x4C; 2 keeps OUT, 0x00, and orders Safe
+-- O7, O8: the fail-safe by FSAFE_TYPE: 0 works by FSAFE_VALUE, 0x48; 1 by the last usable telegram, 0x44, and without one keeps OUT, 0x4C; 2 keeps OUT,
+-- 0x00, and orders Safe
 unfoldable pub aoFailSafe : ℕ → History Event → Given
 aoFailSafe input h =
     cond (eqb (code h 3 24) 0) (working h (float h 3 25) 0x48)
@@ -540,7 +545,7 @@ order h fault = cond (isOut h fault 3) Rest (aoGives h fault .order)
 abbrev pub held : Pair → Pair
 held p = pair (p .bits) 0x1f
 
--- P30, M2 to M4, R17: the pair last given by AIN, TOT and AO: at first 0, held through O/S ticks and at a start
+-- P14b, M2 to M4, R17: the pair last given by AIN, TOT and AO: at first 0, held through O/S ticks and at a start
 unfoldable pub given : ℕ → History Event → Pair
 given block =
     carried (pair 0 0x1f)
@@ -549,7 +554,7 @@ given block =
     (cond (eqb block 1) (ainGives h fault ain) (cond (eqb block 2) (totGives h fault tot) (aoGives h fault .out))))
     (held old) old e)
 
--- P29, P30, P7: the words that a parameter reads with: outputs the pair last given, read-only ones a number and 0, all others what is stored
+-- P14a, P14b, P7: the words that a parameter reads with: outputs the pair last given, read-only ones a number and 0, all others what is stored
 unfoldable pub shown : History Event → ℕ → ℕ → Words
 shown h block number =
     cond (among (outputs block) number) (words (given block h .bits) (given block h .status))

@@ -1,4 +1,4 @@
-// The claim about every list of calls (paper 01, "History rules"), as the contract of a function that runs: it
+// The claim about every list of calls (document 01, History rules), as what a running function promises: it
 // replays an encoded list of calls from the factory device.
 //
 // A call is encoded as a byte that says which, and its arguments, words highest byte first:
@@ -292,7 +292,7 @@ pub fn telegram_after(calls: &[u8], input: u8, bytes: &[u8]) -> Answer
     taken.answer
 }
 
-// The bus image, into the front of a lent buffer.
+// The bus image, from a buffer's first byte on.
 pub fn image_after(calls: &[u8], buf: &mut [u8]) -> Answer
     ensures { λ r. ⌜ r ≡ Rules.toImage (now (buf .entry)) ⌝ }
     ensures { λ _. ⌜ now (buf .exit) ≡ Rules.image (heard (now (calls .entry))) (now (buf .entry)) ⌝ }

@@ -1,4 +1,4 @@
-// Lists of calls as bytes, replayed from the factory device, and what reads give after them, worked by hand from paper 01.
+// Lists of calls as bytes, replayed from the factory device, and what reads give after them, worked by hand from document 01.
 // A line each: the list's name and `passed`, or what differs from the paper. What it would catch: a call read at the
 // wrong place or with its words in another order, a refused call that counts, a malformed list of which a part counts.
 use ao::Order;
@@ -157,7 +157,7 @@ fn differs(block: u8, parameter: u8) {
     text(b" reads ");
 }
 
-// Outputs and actual modes: "Fresh and after a warm start: actual O/S, status 0x1F. Fresh output values are 0."
+// Outputs and actual modes of a device that has not ticked yet: O/S, 0 with 0x1F.
 fn reads_started(good: bool, r: Replayed) -> bool {
     let g = reads(good, r, 1, 6, 0x80, 0);
     let g = reads(g, r, 1, 10, 0, 0x1f);

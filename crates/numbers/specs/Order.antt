@@ -1,15 +1,18 @@
--- Laws of the order of floats that callers cite: `le` is transitive and excludes the opposite `lt`; subtracting what is at least 0 never leads above and adding it never below, so no alarm rises and falls at one value; cutting to an integer keeps the order.
--- A signed magnitude ±a is read as its positive part less its negative part, so that the order of signed fractions is one in ℕ. Assumes nothing.
+-- Laws of the order of floats that callers cite: `le` is transitive and excludes the opposite `lt`; subtracting what is at least 0 never leads above and
+-- adding it never below, so no alarm rises and falls at one value; cutting to an integer keeps the order. A signed magnitude ±a is read as its positive
+-- part less its negative part, so that the order of signed fractions is one in ℕ. Assumes nothing.
 use mathlib.Core.Path.{_≡_, refl, sym, ap, ap₂, _∙_}
 use mathlib.Core.Bool.{Bool, true, false, not, _&&_, _||_, cond, true≢false}
 use Prim.Native.Nat.{ℕ, zero, suc, _+_, _-_, _*_, _/_, _%_, _^_, _≤_, _<_, min}
-use native.Mathlib.Nat.{le-of-suc-le-suc, lt-of-not-le, zero-mul, one-mul, mul-one, add-mul, mul-assoc, mul-comm, mul-left-comm, mul-pos, mul-le-mul-right, mul-lt-mul-of-pos-right, eq-of-mul-eq-mul-right, le-of-mul-le-mul-right, lt-of-mul-lt-mul-right}
+use native.Mathlib.Nat.{le-of-suc-le-suc, lt-of-not-le, zero-mul, one-mul, mul-one, add-mul, mul-assoc, mul-comm, mul-left-comm, mul-pos, mul-le-mul-right}
+use native.Mathlib.Nat.{mul-lt-mul-of-pos-right, eq-of-mul-eq-mul-right, le-of-mul-le-mul-right, lt-of-mul-lt-mul-right}
 use native.Mathlib.Omega.{arith}
 use lib.IntN.{ℤ, pos, negsuc, negℤ}
 use lib.Dec.{T, leb, ltb, eqb, leb→le, le→leb, ltb→lt, nltb→le, eqb→eq}
 use lib.Pow.{pow-pos, pow-add, pow-lt}
 use lib.Signed.{leZ}
-use lib.Ieee.{Float, nan, inf, fin, Format, binary32, binary64, prec, emax, low, up, down, size, odd, units, round, neg, sum, add, sub, below, level, lt, le, toSigned, fits, isNan, hid, top, ofBits, toBits}
+use lib.Ieee.{Float, nan, inf, fin, Format, binary32, binary64, prec, emax, low, up, down, size, odd, units, round, neg, sum, add, sub, below, level, lt}
+use lib.Ieee.{le, toSigned, fits, isNan, hid, top, ofBits, toBits}
 use lib.Ieee.Digits.{back}
 use lib.Ieee.Fits.{down-pos, and-i, and-l, and-r, eq→eqb, round-fits, round-is}
 use lib.Ieee.Bits.{ofBits-toBits}
@@ -52,7 +55,8 @@ from-le true a c true b d h = cases (ltb (b * c) (a * d)) (a * d) (b * c) true h
 to-le : (s : Bool) (a c : ℕ) (t : Bool) (b d : ℕ) → Le s a c t b d → T (below s (a * d) t (b * c) || level s (a * d) t (b * c))
 to-le false a c false b d h = decide (ltb (a * d) (b * c)) (a * d) (b * c) true (λ p. (omega (arith, nltb→le), tt))
 to-le false a c true b d h = decide false (a * d) (b * c) (eqb (a * d) 0) (λ p. (omega arith, eq→eqb {a = a * d} {b = 0} (omega arith)))
-to-le true a c false b d h = decide (ltb 0 (a * d + b * c)) (a * d) (b * c) (eqb (a * d) 0) (λ p. (omega (arith, nltb→le), eq→eqb {a = a * d} {b = 0} (omega (arith, nltb→le))))
+to-le true a c false b d h =
+    decide (ltb 0 (a * d + b * c)) (a * d) (b * c) (eqb (a * d) 0) (λ p. (omega (arith, nltb→le), eq→eqb {a = a * d} {b = 0} (omega (arith, nltb→le))))
 to-le true a c true b d h = decide (ltb (b * c) (a * d)) (a * d) (b * c) true (λ p. (omega (arith, nltb→le), tt))
 
 -- What `lt` tests excludes the opposite order.
@@ -122,7 +126,8 @@ le-trans (fin s m e) (fin t n d) (fin u l g) h k =
     let a = m * up e in
     let b = n * up d in
     let c = l * up g in
-    to-le s a (down e) u c (down g) (through (posPart s a) (negPart s a) (down e) (posPart t b) (negPart t b) (down d) (posPart u c) (negPart u c) (down g) (down-pos d)
+    to-le s a (down e) u c (down g)
+    (through (posPart s a) (negPart s a) (down e) (posPart t b) (negPart t b) (down d) (posPart u c) (negPart u c) (down g) (down-pos d)
     (from-le s a (down e) t b (down d) h) (from-le t b (down d) u c (down g) k))
 
 -- Less excludes at least.
@@ -152,7 +157,9 @@ same-value f (fin t m e) (inf u) s a c C p q v w = absurd w
 same-value f (fin t m e) (fin u n d) s a c C p q v w =
     let l = 2 ^ low f in
     sym (ofBits-toBits f (fin t m e) p)
-    ∙ ap₂ (λ (z : Bool) (i : ℕ). ofBits f (cond z (top f) 0 + (size i - prec f) * hid f + i / 2 ^ (size i - prec f))) (v .0 ∙ sym (w .0)) (div-same (m * up e * l) (down e) (n * up d * l) (down d) (down-pos e) (down-pos d) (cross (m * up e) (down e) (n * up d) (down d) a c l C (v .1) (w .1)))
+    ∙ ap₂ (λ (z : Bool) (i : ℕ). ofBits f (cond z (top f) 0 + (size i - prec f) * hid f + i / 2 ^ (size i - prec f))) (v .0 ∙ sym (w .0))
+    (div-same (m * up e * l) (down e) (n * up d * l) (down d) (down-pos e) (down-pos d)
+    (cross (m * up e) (down e) (n * up d) (down d) a c l C (v .1) (w .1)))
     ∙ ofBits-toBits f (fin u n d) q
   where
     cross : (x y z w a c l : ℕ) → 0 < c → x * c ≡ a * y → z * c ≡ a * w → x * l * w ≡ z * l * y
@@ -171,7 +178,8 @@ exponent l (negsuc a) h =
     (l - suc a, one-mul (2 ^ l) ∙ ap (λ (x : ℕ). 2 ^ x) (sym (back l (suc a) fit)) ∙ pow-add 2 (l - suc a) (suc a))
 
 -- A value that fits is m * 2 ^ j of the format's smallest values, m of no more digits than the format keeps.
-in-units : (f : Format) (s : Bool) (m : ℕ) (e : ℤ) → T (fits f (fin s m e)) → (j : ℕ) × (m < 2 ^ prec f) × (m * 2 ^ j < 2 ^ (low f + suc (emax f))) × (m * up e * 2 ^ low f ≡ m * 2 ^ j * down e)
+in-units : (f : Format) (s : Bool) (m : ℕ) (e : ℤ) → T (fits f (fin s m e))
+    → (j : ℕ) × (m < 2 ^ prec f) × (m * 2 ^ j < 2 ^ (low f + suc (emax f))) × (m * up e * 2 ^ low f ≡ m * 2 ^ j * down e)
 unfolding fits
 in-units f s zero e h = (0, pow-pos (prec f), pow-pos (low f + suc (emax f)), simp zero-mul)
 in-units f s (suc m) e h =
@@ -180,7 +188,8 @@ in-units f s (suc m) e h =
     let c = conjuncts (eqb (M % 2) 1) (ltb M (2 ^ prec f)) (leb (down e) (2 ^ l)) (ltb (M * up e) (2 ^ suc (emax f) * down e)) h in
     let (j, i) = exponent l e (leb→le (down e) (2 ^ l) (c .1)) in
     let is : M * up e * 2 ^ l ≡ M * 2 ^ j * down e = mul-assoc M (up e) (2 ^ l) ∙ ap (λ (x : ℕ). M * x) i ∙ sym (mul-assoc M (2 ^ j) (down e)) in
-    let under : M * up e * 2 ^ l < 2 ^ suc (emax f) * down e * 2 ^ l = mul-lt-mul-of-pos-right (ltb→lt (M * up e) (2 ^ suc (emax f) * down e) (c .2)) (pow-pos l) in
+    let under : M * up e * 2 ^ l < 2 ^ suc (emax f) * down e * 2 ^ l = mul-lt-mul-of-pos-right (ltb→lt (M * up e) (2 ^ suc (emax f) * down e) (c .2))
+    (pow-pos l) in
     let scale : 2 ^ suc (emax f) * down e * 2 ^ l ≡ 2 ^ (l + suc (emax f)) * down e = simp (pow-add, products) in
     (j, ltb→lt M (2 ^ prec f) (c .0), lt-of-mul-lt-mul-right (down e) (omega arith), is)
 
@@ -188,8 +197,10 @@ in-units f s (suc m) e h =
 pub round-own : (f : Format) (s : Bool) (m : ℕ) (e : ℤ) (k : ℕ) → T (fits f (fin s m e)) → 0 < k → round f s (m * up e * k) (down e * k) ≡ fin s m e
 round-own f s m e k h K =
     let u = in-units f s m e h in
-    same-value f (round f s (m * up e * k) (down e * k)) (fin s m e) s (m * up e * k) (down e * k) (mul-pos (down-pos e) K) (round-fits f s (m * up e * k) (down e * k)) h
-    (round-exact f s (m * up e * k) (down e * k) m (u .0) (mul-pos (down-pos e) K) (u .1) (u .2) (simp products (simp products at (ap (λ (x : ℕ). x * k) (u .3)))))
+    same-value f (round f s (m * up e * k) (down e * k)) (fin s m e) s (m * up e * k) (down e * k) (mul-pos (down-pos e) K)
+    (round-fits f s (m * up e * k) (down e * k)) h
+    (round-exact f s (m * up e * k) (down e * k) m (u .0) (mul-pos (down-pos e) K) (u .1) (u .2)
+    (simp products (simp products at (ap (λ (x : ℕ). x * k) (u .3)))))
     (refl, simp products)
 
 -- negated, fractions change their order
@@ -214,7 +225,8 @@ neg-le (fin s m e) nan h = absurd h
 neg-le (fin s m e) (inf true) h = absurd h
 neg-le (fin s m e) (inf false) h = tt
 neg-le (fin s m e) (fin t n d) h =
-    to-le (not t) (n * up d) (down d) (not s) (m * up e) (down e) (flip s (m * up e) (down e) t (n * up d) (down d) (from-le s (m * up e) (down e) t (n * up d) (down d) h))
+    to-le (not t) (n * up d) (down d) (not s) (m * up e) (down e)
+    (flip s (m * up e) (down e) t (n * up d) (down d) (from-le s (m * up e) (down e) t (n * up d) (down d) h))
 
 -- Rounding is symmetric about 0.
 units-neg : (f : Format) (q k : ℕ) → units f true q k ≡ neg (units f false q k)
@@ -234,7 +246,8 @@ round-neg f a c =
 -- Rounding keeps the order of fractions with one sign.
 same-sign : (f : Format) (s : Bool) (a c b d : ℕ) → 0 < c → 0 < d → Le s a c s b d → T (le (round f s a c) (round f s b d))
 same-sign f false a c b d C D h = round-mono f a c b d C D (omega arith)
-same-sign f true a c b d C D h = rw (round-neg f a c, round-neg f b d) (neg-le (round f false b d) (round f false a c) (round-mono f b d a c D C (omega arith)))
+same-sign f true a c b d C D h =
+    rw (round-neg f a c, round-neg f b d) (neg-le (round f false b d) (round f false a c) (round-mono f b d a c D C (omega arith)))
 
 -- Zeros of both signs are equal.
 zeros : (f : Format) (s t : Bool) → T (le (round f s 0 1) (round f t 0 1))
@@ -271,7 +284,8 @@ abbrev Sum : Format → Float → Bool → ℕ → Bool → ℕ → ℕ → Type
 Sum f x s a t b c = (u : Bool) × (r : ℕ) × (x ≡ round f u r c) × (posPart u r + (negPart s a + negPart t b) ≡ negPart u r + (posPart s a + posPart t b))
 
 -- unlike signs: p and q are the tests a < b and b < a
-difference : (f : Format) (s : Bool) (a b c : ℕ) (p q : Bool) → (T p → a < b) → (T (not p) → b ≤ a) → (T (not q) → a ≤ b) → Sum f (cond p (round f (not s) (b - a) c) (round f (s && q) (a - b) c)) s a (not s) b c
+difference : (f : Format) (s : Bool) (a b c : ℕ) (p q : Bool) → (T p → a < b) → (T (not p) → b ≤ a) → (T (not q) → a ≤ b)
+    → Sum f (cond p (round f (not s) (b - a) c) (round f (s && q) (a - b) c)) s a (not s) b c
 difference f true a b c true q h k l = (false, b - a, refl, omega (arith, h tt))
 difference f true a b c false true h k l = (true, a - b, refl, omega (arith, k tt))
 difference f true a b c false false h k l = (false, a - b, refl, omega (arith, k tt, l tt))
@@ -357,7 +371,8 @@ module _ (f : Format) (x h : Float) (F : T (fits f x)) (N : isNan x ≡ false) (
 -- ---- cutting toward 0
 
 -- ±a ≤ ±b, in ℤ
-pub signed-le : (s : Bool) (a : ℕ) (t : Bool) (b : ℕ) → posPart s a + negPart t b ≤ posPart t b + negPart s a → T (leZ (cond s (negℤ (pos a)) (pos a)) (cond t (negℤ (pos b)) (pos b)))
+pub signed-le : (s : Bool) (a : ℕ) (t : Bool) (b : ℕ) → posPart s a + negPart t b ≤ posPart t b + negPart s a
+    → T (leZ (cond s (negℤ (pos a)) (pos a)) (cond t (negℤ (pos b)) (pos b)))
 signed-le false a false b h = le→leb a b (omega arith)
 signed-le false a true zero h = le→leb a 0 (omega arith)
 signed-le false a true (suc b) h = omega arith
@@ -369,9 +384,15 @@ signed-le true (suc a) true zero h = tt
 signed-le true (suc a) true (suc b) h = le→leb b a (omega arith)
 
 -- Cutting fractions toward 0 keeps their order.
-quotient-le : (s : Bool) (a c : ℕ) (t : Bool) (b d : ℕ) → 0 < c → 0 < d → Le s a c t b d → posPart s (a / c) + negPart t (b / d) ≤ posPart t (b / d) + negPart s (a / c)
+quotient-le : (s : Bool) (a c : ℕ) (t : Bool) (b d : ℕ) → 0 < c → 0 < d → Le s a c t b d
+    → posPart s (a / c) + negPart t (b / d) ≤ posPart t (b / d) + negPart s (a / c)
 quotient-le false a c false b d C D h = omega (arith, div-mono a c b d C D (omega arith))
-quotient-le false a c true b d C D h = omega (arith, div-mono a c 0 1 C (pow-pos 0) (omega (arith, none a d D (omega arith))), div-mono b d 0 1 D (pow-pos 0) (omega (arith, none b c C (omega arith))))
+quotient-le false a c true b d C D h =
+    omega (
+      arith,
+      div-mono a c 0 1 C (pow-pos 0) (omega (arith, none a d D (omega arith))),
+      div-mono b d 0 1 D (pow-pos 0) (omega (arith, none b c C (omega arith))),
+    )
 quotient-le true a c false b d C D h = omega arith
 quotient-le true a c true b d C D h = omega (arith, div-mono b d a c D C (omega arith))
 

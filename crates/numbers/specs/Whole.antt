@@ -1,14 +1,14 @@
--- Whole numbers as paper 01, "TOT tick", uses them: a float cut toward zero, a number limited to plus or minus n, and a
+-- Whole numbers as document 01, TOT tick, uses them: a float cut toward zero, a number limited to plus or minus n, and a
 -- number's highest bits. Over ℤ and lib.Ieee's floats. Assumes nothing.
 use Prim.Native.Nat.{ℕ, suc, _-_, _*_, _/_, _^_, min}
 use lib.IntN.{ℤ, pos, negsuc, negℤ}
 use lib.Ieee.{Float, size, toSigned}
 
--- "cut toward zero": the fraction is dropped. A NaN gives 0, and what lies beyond an i64, the infinities with it, the nearest end.
+-- T2, L4: the fraction is dropped, on both sides of 0. A NaN gives 0, and what lies beyond an i64, the infinities with it, the nearest end.
 abbrev pub cutOf : Float → ℤ
 cutOf x = toSigned 63 x
 
--- "cut to ±n": the number itself within plus or minus n, else the nearest of the two ends
+-- T2, T4: the number itself within plus or minus n, else the nearest of the two ends
 unfoldable pub limit : ℕ → ℤ → ℤ
 limit n (pos a) = pos (min a n)
 limit n (negsuc a) = negℤ (pos (min (suc a) n))
@@ -23,11 +23,11 @@ unfoldable pub saturated : ℤ → ℤ
 saturated (pos a) = pos (min a (2 ^ 63 - 1))
 saturated (negsuc a) = negsuc (min a (2 ^ 63 - 1))
 
--- "with all but its w highest bits cleared": the bits below the w highest, counted from the leading one
+-- T10: the bits below the w highest, counted from the leading one, are cleared
 unfoldable pub highestBits : ℕ → ℕ → ℕ
 highestBits w m = m / 2 ^ (size m - w) * 2 ^ (size m - w)
 
--- "with all but its 24 highest bits cleared (its magnitude's)"
+-- T10: the same for 24 bits, and of a number's magnitude
 abbrev pub highest24 : ℕ → ℕ
 highest24 m = highestBits 24 m
 

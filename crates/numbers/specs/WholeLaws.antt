@@ -3,7 +3,8 @@
 use mathlib.Core.Path.{_≡_, refl, sym, ap, _∙_, subst}
 use mathlib.Core.Bool.{Bool, true, false, not, cond, true≢false}
 use Prim.Native.Nat.{ℕ, zero, suc, _+_, _-_, _*_, _/_, _^_, _≤_, _<_, min, zero-le}
-use native.Mathlib.Nat.{le-trans, le-of-eq, lt-of-lt-of-le, lt-of-le-of-lt, zero-lt-suc, mul-one, mul-assoc, div-one, le-div-iff-mul-le, mul-pos, not-le-of-lt, lt-irrefl, lt-of-not-le, one-mul, zero-mul}
+use native.Mathlib.Nat.{le-trans, le-of-eq, lt-of-lt-of-le, lt-of-le-of-lt, zero-lt-suc, mul-one, mul-assoc, div-one, le-div-iff-mul-le, mul-pos}
+use native.Mathlib.Nat.{not-le-of-lt, lt-irrefl, lt-of-not-le, one-mul, zero-mul}
 use native.Mathlib.Omega.{arith}
 use lib.Dec.{T, ltb, le→leb, leb→le, ltb→lt, nltb→le, lit≤, lit<}
 use lib.Pow.{pow-add, pow-pos, pow-mono, shl-lt}
@@ -259,13 +260,15 @@ zero-cut binary32 = refl
 zero-cut binary64 = refl
 
 -- a fraction no larger than one whose float is cut to n is cut to within n
-pub cut-round-within : (f : Format) (s : Bool) (a c b d n : ℕ) → 0 < c → 0 < d → a * d ≤ b * c → cutOf (round f false b d) ≡ pos n → n < 2 ^ 63 - 1 → natAbs (cutOf (round f s a c)) ≤ n
+pub cut-round-within : (f : Format) (s : Bool) (a c b d n : ℕ) → 0 < c → 0 < d → a * d ≤ b * c → cutOf (round f false b d) ≡ pos n → n < 2 ^ 63 - 1
+    → natAbs (cutOf (round f s a c)) ≤ n
 cut-round-within f s a c b d n C D h e N = go s
   where
     plain : natAbs (cutOf (round f false a c)) ≤ n
     plain =
         between (cutOf (round f false a c)) n
-        (subst (λ (z : ℤ). T (leZ z (cutOf (round f false a c)))) (zero-cut f) (cut-mono 63 (round f false 0 1) (round f false a c) (round-mono f 0 1 a c (zero-lt-suc 0) C (le-trans (le-of-eq (zero-mul c)) zero-le))))
+        (subst (λ (z : ℤ). T (leZ z (cutOf (round f false a c)))) (zero-cut f)
+        (cut-mono 63 (round f false 0 1) (round f false a c) (round-mono f 0 1 a c (zero-lt-suc 0) C (le-trans (le-of-eq (zero-mul c)) zero-le))))
         (subst (λ (z : ℤ). T (leZ (cutOf (round f false a c)) z)) e (cut-mono 63 (round f false a c) (round f false b d) (round-mono f a c b d C D h)))
 
     go : (s : Bool) → natAbs (cutOf (round f s a c)) ≤ n

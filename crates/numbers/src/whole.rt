@@ -78,7 +78,7 @@ fn power(k: u64) -> f32
     f32::from_bits(((k + 127) << 23) as u32)
 }
 
-// m with all but its 24 highest bits cleared, as a float: exact.
+// m as a float, after its bits below the 24 highest are cleared: exact.
 pub fn highest(m: u64) -> f32
     ensures { λ r. ⌜ r ≡ ofInt binary32 (pos (highest24 m)) ⌝ }
 {
@@ -102,7 +102,7 @@ pub fn magnitude(z: i64) -> u64
     z as u64
 }
 
-// The total with all but the 24 highest bits of its magnitude cleared, as a float.
+// A total as a float, after the bits of its magnitude below the 24 highest are cleared.
 pub fn value_of(total: i64) -> f32
     ensures { λ r. ⌜ r ≡ ofInt binary32 (highest24ℤ total) ⌝ }
 {

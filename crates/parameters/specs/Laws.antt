@@ -1,4 +1,4 @@
--- Laws of the table that callers cite: what its rows say holds of every block and number, accepted words are allowed, allowed words read back. Assumes nothing.
+-- Laws of the table that callers cite: what its rows say holds of every block and number; accepted words are allowed, and those read back. Assumes nothing.
 use Prim.Native.Nat.{ℕ, zero, suc, _<_, _^_}
 use mathlib.Core.Path.{_≡_, refl, sym, subst}
 use mathlib.Core.Bool.{Bool, true, false, not, _&&_, _||_, cond}
@@ -71,10 +71,15 @@ module _ (chosen : ℕ → Entry → Bool) (P : ℕ → ℕ → Entry → Type 0
     in-rows : (block : ℕ) (rows : List Row) → Rows block rows → (number : ℕ) → T (chosen number (entryIn rows number)) → P block number (entryIn rows number)
     unfolding entryIn
     in-rows block [] all number t = lacking block number t
-    in-rows block (r ∷ rows) all number t = go (in-rows block rows (others (P block (r .number) (entry r)) (Rows block rows) (chosen (r .number) (entry r)) all) number) (eqb number (r .number)) refl t
+    in-rows block (r ∷ rows) all number t =
+        go (in-rows block rows (others (P block (r .number) (entry r)) (Rows block rows) (chosen (r .number) (entry r)) all) number)
+        (eqb number (r .number)) refl t
       where
-        go : (T (chosen number (entryIn rows number)) → P block number (entryIn rows number)) → (b : Bool) → eqb number (r .number) ≡ b → T (chosen number (cond b (entry r) (entryIn rows number))) → P block number (cond b (entry r) (entryIn rows number))
-        go rest true e = subst (λ (n : ℕ). T (chosen n (entry r)) → P block n (entry r)) (sym (eqb-true number (r .number) e)) (first (P block (r .number) (entry r)) (Rows block rows) (chosen (r .number) (entry r)) all)
+        go : (T (chosen number (entryIn rows number)) → P block number (entryIn rows number)) → (b : Bool) → eqb number (r .number) ≡ b
+            → T (chosen number (cond b (entry r) (entryIn rows number))) → P block number (cond b (entry r) (entryIn rows number))
+        go rest true e =
+            subst (λ (n : ℕ). T (chosen n (entry r)) → P block n (entry r)) (sym (eqb-true number (r .number) e))
+            (first (P block (r .number) (entry r)) (Rows block rows) (chosen (r .number) (entry r)) all)
         go rest false e = rest
 
     -- P of every block and number that is chosen
@@ -107,7 +112,9 @@ pub accepted-takes : (s : Standing) (block number a b : ℕ) → ground s block 
 unfolding ground
 accepted-takes s block number a b e = by (entryOf block number) e
   where
-    go : (r l w m : Bool) → cond r (Refused ReadOnly) (cond l (Refused Locked) (cond (not w) (Refused WordsNotAllowed) (cond m (Refused NotMan) Accepted))) ≡ Accepted → T (not r && w)
+    go : (r l w m : Bool)
+        → cond r (Refused ReadOnly) (cond l (Refused Locked) (cond (not w) (Refused WordsNotAllowed) (cond m (Refused NotMan) Accepted))) ≡ Accepted
+        → T (not r && w)
     go false false true false e = tt
     go true l w m e = absurd (refused-other _ e)
     go false true w m e = absurd (refused-other _ e)
@@ -117,7 +124,8 @@ accepted-takes s block number a b e = by (entryOf block number) e
     by : (x : Entry) → groundBy s block a b x ≡ Accepted → T (takes x a b)
     by NoBlock e = absurd (refused-other _ e)
     by NoParameter e = absurd (refused-other _ e)
-    by (Parameter class allowed) e = go (readOnly class) (eqb (s .lock) 0 && not (eqb block 0)) (allowsOf allowed a b) (output allowed && not (eqb (targetIn s block) man)) e
+    by (Parameter class allowed) e =
+        go (readOnly class) (eqb (s .lock) 0 && not (eqb block 0)) (allowsOf allowed a b) (output allowed && not (eqb (targetIn s block) man)) e
 
 -- ---- allowed words read back
 
@@ -149,7 +157,8 @@ module _ (w : Words) (first : w .first < 2 ^ 32) (second : w .second < 2 ^ 32) w
   floated true n t = λ i. words (word-back (w .first) first (n refl) i) (sym (eqb→eq (w .second) 0 t) i)
   floated false n t = absurd t
 
-  ended : (low high unequal : Bool) → (low ≡ true → isNan (floatOf (w .first)) ≡ false) → (high ≡ true → isNan (floatOf (w .second)) ≡ false) → T (low && high && unequal) → shown Ends w ≡ w
+  ended : (low high unequal : Bool) → (low ≡ true → isNan (floatOf (w .first)) ≡ false) → (high ≡ true → isNan (floatOf (w .second)) ≡ false)
+      → T (low && high && unequal) → shown Ends w ≡ w
   ended true true unequal l h t = λ i. words (word-back (w .first) first (l refl) i) (word-back (w .second) second (h refl) i)
   ended false high unequal l h t = absurd t
   ended true false unequal l h t = absurd t
@@ -158,15 +167,18 @@ module _ (w : Words) (first : w .first < 2 ^ 32) (second : w .second < 2 ^ 32) w
   unfolding allowsOf allowedScale
   shown-back Nothing t = refl
   shown-back Lock t = coded (and-r (eqb (w .first) 0 || eqb (w .first) 2457) (eqb (w .second) 0) t)
-  shown-back (Mode r) t = coded (and-r (eqb (w .first) outOfService || eqb (w .first) man || eqb (w .first) auto || r && eqb (w .first) rcas) (eqb (w .second) 0) t)
+  shown-back (Mode r) t =
+      coded (and-r (eqb (w .first) outOfService || eqb (w .first) man || eqb (w .first) auto || r && eqb (w .first) rcas) (eqb (w .second) 0) t)
   shown-back (UpTo n) t = coded (and-r (leb (w .first) n) (eqb (w .second) 0) t)
-  shown-back Ends t = ended (finite (floatOf (w .first))) (finite (floatOf (w .second))) _ (finite-number (floatOf (w .first))) (finite-number (floatOf (w .second))) t
+  shown-back Ends t =
+      ended (finite (floatOf (w .first))) (finite (floatOf (w .second))) _ (finite-number (floatOf (w .first))) (finite-number (floatOf (w .second))) t
   shown-back (Within low high) t = floated (within low high (floatOf (w .first))) (within-number low high (floatOf (w .first))) t
   shown-back Finite t = floated (finite (floatOf (w .first))) (finite-number (floatOf (w .first))) t
   shown-back AtLeastZero t =
       let a = finite (floatOf (w .first)) in
       let b = le (ofInt binary32 (pos 0)) (floatOf (w .first)) in
-      floated a (finite-number (floatOf (w .first))) (and-i a (eqb (w .second) 0) (and-l a b (and-l (a && b) (eqb (w .second) 0) t)) (and-r (a && b) (eqb (w .second) 0) t))
+      floated a (finite-number (floatOf (w .first)))
+      (and-i a (eqb (w .second) 0) (and-l a b (and-l (a && b) (eqb (w .second) 0) t)) (and-r (a && b) (eqb (w .second) 0) t))
   shown-back (FiniteOr negative) t = floated (finiteOr negative (floatOf (w .first))) (finiteOr-number negative (floatOf (w .first))) t
   shown-back Output t = refl
   shown-back (Total low high) t = refl

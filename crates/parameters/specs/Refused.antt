@@ -1,4 +1,4 @@
--- Whether a write is accepted, from paper 01, "Refused calls": one function of what stands and the call. Assumes nothing.
+-- Whether a write is accepted, document 01, Refused calls: one function of what stands and the call. Assumes nothing.
 use Prim.Native.Nat.{ℕ}
 use mathlib.Core.Bool.{Bool, true, false, not, _&&_, cond}
 use lib.Dec.{eqb}
@@ -16,14 +16,14 @@ use Rattle.parameters.specs.declared.Standing.{Standing}
 use Rattle.parameters.specs.Table.{entryOf}
 use Rattle.parameters.specs.Words.{allowsOf}
 
--- "written parameter is R"
+-- F5: no write changes a read-only parameter
 abbrev pub readOnly : Class → Bool
 readOnly S = false
 readOnly N = false
 readOnly D = false
 readOnly R = true
 
--- OUT and TOTAL: the parameters of a value with a status
+-- F8: OUT and TOTAL, the parameters of a value with a status
 abbrev pub output : Allowed → Bool
 output Nothing = false
 output Lock = false
@@ -37,7 +37,7 @@ output (FiniteOr negative) = false
 output Output = true
 output (Total low high) = true
 
--- "A stored parameter (S or N, but not TOTAL)"
+-- R10: stored are static and kept parameters, TOTAL left out
 abbrev pub storedEntry : Entry → Bool
 storedEntry NoBlock = false
 storedEntry NoParameter = false
@@ -50,8 +50,8 @@ storedEntry (Parameter R allowed) = false
 unfoldable pub targetIn : Standing → ℕ → ℕ
 targetIn s block = cond (eqb block 1) (s .ain) (cond (eqb block 2) (s .tot) (s .ao))
 
--- "Write checks run 1 to 6": 1 "block over 3", 2 "block lacks the parameter", 3 "written parameter is R", 4 "WRITE_LOCKING 0, another parameter"
--- (block 0 has WRITE_LOCKING alone, and its only other value is 2457), 5 "words not allowed", 6 "OUT or TOTAL, target not Man"
+-- F2 to F8: the grounds, the first that is met: no such block (1), none of its parameters (2), a read-only one (3), WRITE_LOCKING is 0 and another is
+-- written (4; block 0 has WRITE_LOCKING alone, and its only other value is 2457), words not allowed (5), an output, its target being other than Man (6)
 abbrev pub groundBy : Standing → ℕ → ℕ → ℕ → Entry → Answer
 groundBy s block a b NoBlock = Refused (Refusal.ground 1)
 groundBy s block a b NoParameter = Refused (Refusal.ground 2)

@@ -1,4 +1,4 @@
--- The parameters as a table, from paper 01, "Parameters": number, storage class, allowed words, default words, a line each. Assumes nothing.
+-- The parameters as a table, document 01, Parameters: number, storage class, allowed words, default words, a line each. Assumes nothing.
 use Prim.Native.Nat.{ℕ}
 use mathlib.Core.Bool.{Bool, true, false, cond}
 use mathlib.Core.List.{List, [], _∷_}
@@ -35,14 +35,13 @@ billion = ofInt binary32 (pos 1_000_000_000)
 abbrev minusBillion : Float
 minusBillion = ofInt binary32 (negsuc 999_999_999)
 
--- "Block 0: 18 WRITE_LOCKING N, 0 or 2457 (2457)."
+-- P9: WRITE_LOCKING (18), at first open
 unfoldable pub physical : List Row
 physical = row 18 N Lock 2457 0 ∷ []
 
--- "Blocks 1 to 3: 1 ST_REV R; 5 TARGET_MODE S, 0x80 O/S, 0x10 Man, 0x08 Auto, in AO also 0x02 RCas (0x08); 6 actual mode R."
--- AIN: "7 alarms R ..; 10 OUT D, finite value and status 0 to 255; 11 PV_SCALE and 12 OUT_SCALE S .. (0, 100); 16 PV_FTIME S, 0 to 3600 s (0);
--- 17 FSAFE_TYPE S, 0 to 2 (1); 18 FSAFE_VALUE S, finite (0); 19 ALARM_HYS S, finite, at least 0, in OUT's unit (0.5);
--- 21 HI_HI_LIM, 23 HI_LIM S, finite or +infinity (+infinity); 25 LO_LIM, 27 LO_LO_LIM S, finite or −infinity (−infinity)."
+-- P10: ST_REV (1), TARGET_MODE (5), at first Auto, and the actual mode (6), as in TOT and AO; of the three only AO's target may be RCas
+-- P11a to P11i: the alarms (7), OUT (10), both scales (11, 12), the filter time in seconds (16), type and value of the fail-safe (17, 18),
+-- the hysteresis (19), the high limits (21, 23) and the low ones (25, 27), at first infinite
 unfoldable pub ain : List Row
 ain =
     row 1 R Nothing 0 0
@@ -62,8 +61,7 @@ ain =
     ∷ row 27 S (FiniteOr true) 0xff80_0000 0
     ∷ []
 
--- TOT: "10 TOTAL N, value within ±10^9 and status 0 to 255; 13 SET_TOT N, 0 run, 1 reset, 2 preset (0); 14 MODE_TOT N, 0 balanced, 1 positive only,
--- 2 negative only, 3 hold (0); 15 FAIL_TOT S, 0 run, 1 hold, 2 memory (0); 16 PRESET_TOT S, within ±10^9 (0)."
+-- P12a to P12e: TOTAL (10), SET_TOT (13), MODE_TOT (14), FAIL_TOT (15), PRESET_TOT (16); what their codes do stands with the tick
 unfoldable pub tot : List Row
 tot =
     row 1 R Nothing 0 0
@@ -76,8 +74,7 @@ tot =
     ∷ row 16 S (Within minusBillion billion) 0 0
     ∷ []
 
--- AO: "11 PV_SCALE, 38 OUT_SCALE S as in AIN; 23 FSAFE_TIME S, whole ticks 0 to 65,535 (0); 24 FSAFE_TYPE S, 0 to 2 (1); 25 FSAFE_VALUE S, finite (0);
--- 36 INCREASE_CLOSE S, 0 or 1 (0); 37 OUT D as AIN's."
+-- P13a to P13f: the scales (11, 38), time in ticks, type and value of the fail-safe (23, 24, 25), INCREASE_CLOSE (36), OUT (37)
 unfoldable pub ao : List Row
 ao =
     row 1 R Nothing 0 0
@@ -97,7 +94,7 @@ unfoldable pub entryIn : List Row → ℕ → Entry
 entryIn [] number = NoParameter
 entryIn (r ∷ rows) number = cond (eqb number (r .number)) (Parameter (r .class) (r .allowed)) (entryIn rows number)
 
--- "Blocks: 0 physical, 1 AIN, 2 TOT, 3 AO."
+-- P1: a block's rows, by its number
 unfoldable pub rowsOf : ℕ → List Row
 rowsOf block = cond (eqb block 0) physical (cond (eqb block 1) ain (cond (eqb block 2) tot (cond (eqb block 3) ao [])))
 
@@ -108,7 +105,7 @@ entryOf block number =
     (cond (eqb block 2) (entryIn tot number)
     (cond (eqb block 3) (entryIn ao number) NoBlock)))
 
--- "Defaults in brackets."
+-- P4: a parameter's default words
 unfoldable pub defaultIn : List Row → ℕ → Words
 defaultIn [] number = words 0 0
 defaultIn (r ∷ rows) number = cond (eqb number (r .number)) (r .default) (defaultIn rows number)
@@ -116,7 +113,7 @@ defaultIn (r ∷ rows) number = cond (eqb number (r .number)) (r .default) (defa
 unfoldable pub defaultOf : ℕ → ℕ → Words
 defaultOf block number = defaultIn (rowsOf block) number
 
--- "S is static"
+-- P3: whether a parameter is static
 abbrev pub staticEntry : Entry → Bool
 staticEntry NoBlock = false
 staticEntry NoParameter = false

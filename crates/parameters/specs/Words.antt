@@ -1,4 +1,4 @@
--- Which words a parameter takes, from paper 01, "Parameters". Assumes nothing.
+-- Which words a parameter takes, document 01, Parameters. Assumes nothing.
 use Prim.Native.Nat.{ℕ}
 use mathlib.Core.Bool.{Bool, false, _&&_, _||_}
 use lib.Dec.{eqb, leb}
@@ -11,15 +11,16 @@ use Rattle.blocks.specs.Common.{outOfService, man, auto, rcas}
 use Rattle.parameters.specs.declared.Allowed.{Allowed}
 use Rattle.parameters.specs.declared.Allowed.the-variants.{Nothing, Lock, Mode, UpTo, Ends, Within, Finite, AtLeastZero, FiniteOr, Output, Total}
 
--- "A one-word parameter needs second word 0"
+-- P7: where one word is the value, the other is 0
 abbrev one : Bool → ℕ → Bool
 one b second = b && eqb second 0
 
--- "status 0 to 255"
+-- P11b, P12a: a status is a byte
 abbrev status : ℕ → Bool
 status second = leb second 255
 
--- "Ranges compare as numbers"; "codes, ticks and statuses are whole numbers"
+-- P6, P8: codes, ticks and a status as whole numbers, all else as floats by their bits;
+-- a range of floats is one of numbers and takes both zeros or neither
 unfoldable pub allowsOf : Allowed → ℕ → ℕ → Bool
 allowsOf Nothing a b = false
 allowsOf Lock a b = one (eqb a 0 || eqb a 2457) b

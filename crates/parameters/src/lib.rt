@@ -1,5 +1,5 @@
-// The parameters (paper 01, "Parameters"): block and number decide storage class and allowed words, and with what
-// stands they decide whether a write is accepted (paper 01, "Refused calls").
+// The parameters (document 01, Parameters): block and number decide storage class and allowed words, and with what
+// stands they decide whether a write is accepted (Refused calls).
 ghost use mathlib.Core.Path.{_≡_};
 ghost use Rattle.parameters.specs.Table.{entryOf, entryIn, physical, ain, tot, ao, isStatic};
 ghost use Rattle.parameters.specs.Words.{allowsOf};
@@ -12,7 +12,7 @@ use scaling::Scale;
 use wire::Answer;
 use wire::Refusal;
 
-// S is static, N kept but not counted, D dynamic, R read-only.
+// Storage class: static, kept but not in ST_REV, dynamic, read-only.
 pub enum Class {
     S,
     N,
@@ -30,7 +30,7 @@ pub enum Allowed {
     Mode(bool),
     // A whole number up to this one.
     UpTo(u32),
-    // Low and high end, both finite and unequal as numbers.
+    // Low and high end, finite and of different numbers.
     Ends,
     // A float from the first to the second.
     Within(f32, f32),

@@ -1,4 +1,4 @@
-// Scaling by a low and a high end, shared by AIN and AO (paper 01, "AIN tick" and "AO tick").
+// Scaling by two ends, shared by AIN and AO (document 01, AIN tick and AO tick).
 ghost use mathlib.Core.Path.{_≡_};
 ghost use Rattle.scaling.specs.Scaling.{fractionOf, atFraction, allowedScale};
 

@@ -17,7 +17,8 @@ use Rattle.script.specs.declared.Name.{Name}
 use Rattle.script.specs.declared.Command.{Command}
 use Rattle.script.specs.Command.{nameOf, valueAt, tickCall, telegramCall, writeCall, readCall, imageCall, partCall, callOf, commandOf, lengthOf}
 use Rattle.script.specs.Answer.{allPut, placeAfterAll, joined, rowParts}
-use Rattle.script.specs.Words.{some, wordsAfter, wordsOf, isEmpty, firstOf, restOf, between, NextWord, numberOf, upTo, valueOf, fitting, eachOf, valuesOf, sameBytes}
+use Rattle.script.specs.Words.{some, wordsAfter, wordsOf, isEmpty, firstOf, restOf, between, NextWord, numberOf, upTo, valueOf, fitting, eachOf}
+use Rattle.script.specs.Words.{valuesOf, sameBytes}
 
 -- ---- words
 
@@ -27,7 +28,8 @@ unfolding wordsOf wordsAfter
 space-passed line i h e = rw (add-one i, drop-cons line i 0 h, e)
 
 -- any other byte belongs to the word
-pub byte-read : (line w : List ℕ) (i : ℕ) → i < length line → (getD line i 0 ≡ 32 → ⊥) → wordsAfter (w ++ (getD line i 0 ∷ [])) (drop (i + 1) line) ≡ wordsAfter w (drop i line)
+pub byte-read : (line w : List ℕ) (i : ℕ) → i < length line → (getD line i 0 ≡ 32 → ⊥)
+    → wordsAfter (w ++ (getD line i 0 ∷ [])) (drop (i + 1) line) ≡ wordsAfter w (drop i line)
 unfolding wordsAfter
 byte-read line w i h e = rw (add-one i, drop-cons line i 0 h, ne-eqb (getD line i 0) 32 e)
 
@@ -55,7 +57,8 @@ nothing-between line at = let e : at - at ≡ 0 = omega arith in rw e
 -- ---- byte strings
 
 -- the bytes at a place, and those after it
-pub same-at : (a b : List ℕ) (i : ℕ) → i < length a → i < length b → sameBytes (drop i a) (drop i b) ≡ (eqb (getD a i 0) (getD b i 0) && sameBytes (drop (i + 1) a) (drop (i + 1) b))
+pub same-at : (a b : List ℕ) (i : ℕ) → i < length a → i < length b
+    → sameBytes (drop i a) (drop i b) ≡ (eqb (getD a i 0) (getD b i 0) && sameBytes (drop (i + 1) a) (drop (i + 1) b))
 unfolding sameBytes
 same-at a b i h k = rw (add-one i, drop-cons a i 0 h, drop-cons b i 0 k)
 
@@ -96,7 +99,9 @@ ended line i s e = go (ltb i (length line)) refl
     go false t = ltb-false i (length line) t
 
 -- a word's place, from where the spaces before it end and where the next space or the line's end is
-pub next-word : (line : List ℕ) (at from to : ℕ) → from ≤ to → to ≤ length line → (from < length line → eqb (getD line from 0) 32 ≡ false) → (to < length line → eqb (getD line to 0) 32 ≡ true) → wordsOf (drop from line) ≡ wordsOf (drop at line) → wordsOf (drop from line) ≡ some (between line from to) (wordsOf (drop to line)) → NextWord line at from to
+pub next-word : (line : List ℕ) (at from to : ℕ) → from ≤ to → to ≤ length line → (from < length line → eqb (getD line from 0) 32 ≡ false)
+    → (to < length line → eqb (getD line to 0) 32 ≡ true) → wordsOf (drop from line) ≡ wordsOf (drop at line)
+    → wordsOf (drop from line) ≡ some (between line from to) (wordsOf (drop to line)) → NextWord line at from to
 next-word line at from to h k s e p q = go (eqb from to) refl
   where
     empty : from ≡ to → wordsOf (drop at line) ≡ []
@@ -145,7 +150,8 @@ place-append s at [] qs = refl
 place-append s at (p ∷ ps) qs = place-append (bytesPut s at p) (placeAfter s at p) ps qs
 
 -- where the text of the parts has room, it stands in the buffer from the place on, and the place after it is its end
-pub put-whole : (s : List ℕ) (at : ℕ) (ps : List (List ℕ)) → at + length (joined ps) ≤ length s → (allPut s at ps ≡ replaced s at (joined ps)) × (placeAfterAll s at ps ≡ at + length (joined ps))
+pub put-whole : (s : List ℕ) (at : ℕ) (ps : List (List ℕ)) → at + length (joined ps) ≤ length s
+    → (allPut s at ps ≡ replaced s at (joined ps)) × (placeAfterAll s at ps ≡ at + length (joined ps))
 unfolding allPut placeAfterAll bytesPut placeAfter
 put-whole s at [] h =
     let e : at + 0 ≡ at = omega arith in
@@ -169,20 +175,24 @@ put-whole s at (p ∷ ps) h =
 -- ---- words counted
 
 -- a word that begins at a place ends past it
-pub word-ends-past : (line : List ℕ) (from to : ℕ) → from ≤ to → from < length line → (from < length line → eqb (getD line from 0) 32 ≡ false) → (to < length line → eqb (getD line to 0) 32 ≡ true) → from < to
+pub word-ends-past : (line : List ℕ) (from to : ℕ) → from ≤ to → from < length line → (from < length line → eqb (getD line from 0) 32 ≡ false)
+    → (to < length line → eqb (getD line to 0) 32 ≡ true) → from < to
 word-ends-past line from to h k s e = go (eqb from to) refl
   where
     go : (t : Bool) → eqb from to ≡ t → from < to
     go true t = let l = ended line from s (rw (← eqb-true from to t) at e) in absurd (omega arith)
     go false t = omega (arith, eqb-false from to t)
 
-pub word-counted : (line : List ℕ) (from to : ℕ) → from < to → to ≤ length line → wordsOf (drop from line) ≡ some (between line from to) (wordsOf (drop to line)) → length (wordsOf (drop from line)) ≡ suc (length (wordsOf (drop to line)))
+pub word-counted : (line : List ℕ) (from to : ℕ) → from < to → to ≤ length line
+    → wordsOf (drop from line) ≡ some (between line from to) (wordsOf (drop to line))
+    → length (wordsOf (drop from line)) ≡ suc (length (wordsOf (drop to line)))
 word-counted line from to h k q = ap length (q ∙ some-between line from to (wordsOf (drop to line)) h k)
 
 -- ---- numbers
 
 -- the limits from a place on, and the words that they are for
-pub fitting-at : (limits : List ℕ) (i : ℕ) (ws : List (List ℕ)) → i < length limits → fitting (drop i limits) ws ≡ (upTo (getD limits i 0) (numberOf (firstOf ws)) && fitting (drop (i + 1) limits) (restOf ws))
+pub fitting-at : (limits : List ℕ) (i : ℕ) (ws : List (List ℕ)) → i < length limits
+    → fitting (drop i limits) ws ≡ (upTo (getD limits i 0) (numberOf (firstOf ws)) && fitting (drop (i + 1) limits) (restOf ws))
 unfolding fitting
 fitting-at limits i ws h = rw (add-one i, drop-cons limits i 0 h)
 
@@ -191,7 +201,8 @@ unfolding fitting
 fitting-ended limits i ws h = rw (drop-of-length-le limits {i = i} h)
 
 -- a list filled from the front: one element more, and all
-pub filled-more : (f : List ℕ → ℕ) (out : List ℕ) (n i v : ℕ) (ws : List (List ℕ)) → i < length out → i < n → v ≡ f (firstOf ws) → take (i + 1) (set out i v) ++ eachOf f (n - (i + 1)) (restOf ws) ≡ take i out ++ eachOf f (n - i) ws
+pub filled-more : (f : List ℕ → ℕ) (out : List ℕ) (n i v : ℕ) (ws : List (List ℕ)) → i < length out → i < n → v ≡ f (firstOf ws)
+    → take (i + 1) (set out i v) ++ eachOf f (n - (i + 1)) (restOf ws) ≡ take i out ++ eachOf f (n - i) ws
 unfolding eachOf
 filled-more f out n i v ws h k e =
     let m : n - i ≡ suc (n - (i + 1)) = omega arith in
@@ -213,11 +224,13 @@ both-true true b e = (refl, e)
 both-true false b e = absurd (let z : _≡_ {A = ℕ} 0 1 = cc in omega arith)
 
 -- values of words that fit are within their limits
-pub fitting-within : (limits : List ℕ) (ws : List (List ℕ)) (k : ℕ) → fitting limits ws ≡ true → k < length limits → getD (valuesOf (length limits) ws) k 0 ≤ getD limits k 0
+pub fitting-within : (limits : List ℕ) (ws : List (List ℕ)) (k : ℕ) → fitting limits ws ≡ true → k < length limits
+    → getD (valuesOf (length limits) ws) k 0 ≤ getD limits k 0
 unfolding fitting eachOf
 fitting-within [] ws k e h = absurd (omega arith)
 fitting-within (l ∷ ls) ws zero e h = value-within l (numberOf (firstOf ws)) (both-true (upTo l (numberOf (firstOf ws))) (fitting ls (restOf ws)) e .0)
-fitting-within (l ∷ ls) ws (suc k) e h = fitting-within ls (restOf ws) k (both-true (upTo l (numberOf (firstOf ws))) (fitting ls (restOf ws)) e .1) (omega arith)
+fitting-within (l ∷ ls) ws (suc k) e h =
+    fitting-within ls (restOf ws) k (both-true (upTo l (numberOf (firstOf ws))) (fitting ls (restOf ws)) e .1) (omega arith)
 
 -- ---- lengths
 
@@ -261,7 +274,8 @@ image-within ws =
 part-within : (ws : List (List ℕ)) → lengthOf (partCall ws) ≤ 64
 unfolding partCall
 part-within ws =
-    by-test (fitting (255 ∷ 64 ∷ []) ws) (Command.Part (valueAt 2 ws 0) (valueAt 2 ws 1)) Command.Error (λ e. fitting-within (255 ∷ 64 ∷ []) ws 1 e (omega arith)) (omega arith)
+    by-test (fitting (255 ∷ 64 ∷ []) ws) (Command.Part (valueAt 2 ws 0) (valueAt 2 ws 1)) Command.Error
+    (λ e. fitting-within (255 ∷ 64 ∷ []) ws 1 e (omega arith)) (omega arith)
 
 call-within : (name : Name) (ws : List (List ℕ)) → lengthOf (callOf name ws) ≤ 64
 unfolding callOf

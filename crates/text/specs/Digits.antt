@@ -1,4 +1,5 @@
--- Numbers as text, by the call script: "Words, value bits and positions are written as `0x` and eight capital hexadecimal digits, bytes as two capital hexadecimal digits, refusal numbers and the total in decimal." Text is a list of ASCII bytes. Assumes nothing.
+-- Numbers as text, by the call script: "Words, value bits and positions are written as `0x` and eight capital hexadecimal digits, bytes as two capital
+-- hexadecimal digits, refusal numbers and the total in decimal." Text is a list of ASCII bytes. Assumes nothing.
 use Prim.Native.Nat.{ℕ, zero, suc, _+_, _/_, _%_}
 use mathlib.Core.Bool.{cond}
 use mathlib.Core.List.{List, [], _∷_, _++_}

@@ -41,7 +41,8 @@ value-of-digit d h = go (ltb d 10) refl
         rw (le-ltb (48 + d) 48 (omega arith), lt-ltb (48 + d) 58 (omega arith)) (omega arith)
     go false t =
         let high = ltb-false d 10 t in
-        rw (le-ltb (55 + d) 48 (omega arith), le-ltb (55 + d) 58 (omega arith), le-ltb (55 + d) 65 (omega arith), lt-ltb (55 + d) 71 (omega arith)) (omega arith)
+        rw (le-ltb (55 + d) 48 (omega arith), le-ltb (55 + d) 58 (omega arith), le-ltb (55 + d) 65 (omega arith), lt-ltb (55 + d) 71 (omega arith))
+        (omega arith)
 
 -- one digit more at the end
 value-snoc : (base n c : ℕ) (w : List ℕ) → valueAfter base n (w ++ (c ∷ [])) ≡ valueAfter base n w * base + digitValue c
@@ -74,7 +75,8 @@ value-of-digits base (suc k) n p h l =
     ∙ rw (value-of-digits base k (n / base) p h (shorter base k n p l), last-digit base n p h) (div-add-mod' n base)
 
 -- decimal digits, by whether the number has one
-decimal-cases : (P : List ℕ → Type 0) (k n : ℕ) → (n < 10 → P (digit n ∷ [])) → (10 ≤ n → P (decimalIn k (n / 10) ++ (digit (n % 10) ∷ []))) → P (decimalIn (suc k) n)
+decimal-cases : (P : List ℕ → Type 0) (k n : ℕ) → (n < 10 → P (digit n ∷ [])) → (10 ≤ n → P (decimalIn k (n / 10) ++ (digit (n % 10) ∷ [])))
+    → P (decimalIn (suc k) n)
 unfolding decimalIn
 decimal-cases P k n one more = go (ltb n 10) refl
   where
@@ -104,7 +106,8 @@ decimal-value (suc k) n l =
     (λ h. value-snoc 10 0 (digit (n % 10)) (decimalIn k (n / 10)) ∙ rw (rest, last-digit 10 n (omega arith) (omega arith)) (omega arith))
 
 -- one or more digits of a base are a number
-number-of-digits : (base limit n : ℕ) (w : List ℕ) → 0 < length w → allDigits base w ≡ true → valueAfter base 0 w ≡ n → n ≤ limit → digitsNumber base w limit ≡ Number.Value n
+number-of-digits : (base limit n : ℕ) (w : List ℕ) → 0 < length w → allDigits base w ≡ true → valueAfter base 0 w ≡ n → n ≤ limit
+    → digitsNumber base w limit ≡ Number.Value n
 unfolding digitsNumber
 number-of-digits base limit n w some all e h = rw (lt-ltb 0 (length w) some, all, e, le-leb n limit h)
 
@@ -126,7 +129,8 @@ no-mark (a ∷ b ∷ w) e = go (eqb b 120) refl
 pub number-of-word : (n limit : ℕ) → n < 2 ^ 32 → n ≤ limit → wordNumber (hexWord n) limit ≡ Number.Value n
 unfolding wordNumber
 number-of-word n limit h l =
-    number-of-digits 16 limit n (digits 16 8 n) (omega arith) (all-digits 16 8 n (omega arith) (omega arith)) (value-of-digits 16 8 n (omega arith) (omega arith) h) l
+    number-of-digits 16 limit n (digits 16 8 n) (omega arith) (all-digits 16 8 n (omega arith) (omega arith))
+    (value-of-digits 16 8 n (omega arith) (omega arith) h) l
 
 -- a number written in decimal is read again
 pub number-of-decimal : (n limit : ℕ) → n < 2 ^ 64 → n ≤ limit → wordNumber (decimal n) limit ≡ Number.Value n

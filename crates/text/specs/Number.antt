@@ -1,4 +1,5 @@
--- Numbers read from text, by the call script: "A number is decimal, or hexadecimal after `0x` with digits of either case. Leading zeros are allowed." Text is a list of ASCII bytes. Assumes nothing.
+-- Numbers read from text, by the call script: "A number is decimal, or hexadecimal after `0x` with digits of either case. Leading zeros are allowed." Text
+-- is a list of ASCII bytes. Assumes nothing.
 use Prim.Native.Nat.{ℕ, _+_, _-_, _*_}
 use mathlib.Core.Bool.{Bool, true, cond, _&&_}
 use mathlib.Core.List.{List, [], _∷_}

@@ -21,7 +21,8 @@ use Rattle.blocks.specs.declared.Kept.{Kept}
 use Rattle.blocks.specs.Common.{outOfService, man, actualMode}
 use Rattle.tot.specs.declared.Settings.{Settings}
 use Rattle.tot.specs.declared.State.{State}
-use Rattle.tot.specs.Total.{totalFactor, rateFactor, valueLimit, incrementLimit, totalLimit, incrementOf, wanted, thousandthsOf, sumOf, nextTotal, valueGiven, givenBits}
+use Rattle.tot.specs.Total.{totalFactor, rateFactor, valueLimit, incrementLimit, totalLimit, incrementOf, wanted, thousandthsOf, sumOf, nextTotal}
+use Rattle.tot.specs.Total.{valueGiven, givenBits}
 use Rattle.tot.specs.Tick.{tickAdds, autoTotal, autoTick, manTick, outOfServiceTick, tickBy, tickOf}
 
 -- ---- the limits
@@ -34,7 +35,7 @@ pub sum-within : (total z : ℤ) → natAbs (sumOf total z) ≤ totalLimit
 unfolding sumOf
 sum-within total z = limit-within totalLimit (total +ℤ z)
 
--- "within ±10^9", as PRESET_TOT and a written TOTAL are
+-- P12a, P12e: the range of PRESET_TOT and of a written TOTAL
 abbrev pub Writable : Float → Type 0
 Writable value = T (le (ofInt binary32 (negℤ (pos valueLimit))) value) × T (le value (ofInt binary32 (pos valueLimit)))
 
@@ -75,9 +76,11 @@ magnitude : (s : Bool) (m : ℕ) (e : ℤ) → m * up e * 1 ≤ valueLimit * dow
 unfolding thousandthsOf
 magnitude s m e h =
     rw (thousand, product s m e)
-    (le-trans (cut-round-within binary32 s (m * up e * totalFactor) (down e * 1) (valueLimit * totalFactor) 1 999999995904 (mul-pos (down-pos e) (zero-lt-suc 0)) (zero-lt-suc 0) (scaled (m * up e) (down e) h) largest (lit< tt)) (lit≤ tt))
+    (le-trans (cut-round-within binary32 s (m * up e * totalFactor) (down e * 1) (valueLimit * totalFactor) 1 999999995904
+    (mul-pos (down-pos e) (zero-lt-suc 0)) (zero-lt-suc 0) (scaled (m * up e) (down e) h) largest (lit< tt)) (lit≤ tt))
 
-le-side : (s : Bool) (m : ℕ) (e : ℤ) → T (le (fin true 1953125 (pos 9)) (fin s m e)) → T (le (fin s m e) (fin false 1953125 (pos 9))) → m * up e * 1 ≤ valueLimit * down e
+le-side : (s : Bool) (m : ℕ) (e : ℤ) → T (le (fin true 1953125 (pos 9)) (fin s m e)) → T (le (fin s m e) (fin false 1953125 (pos 9)))
+    → m * up e * 1 ≤ valueLimit * down e
 unfolding le
 le-side true m e h k =
     let a = valueLimit * down e in
@@ -142,7 +145,8 @@ unfolding div
 quotient nan s h v t = absurd v
 quotient (inf u) s h v t = absurd v
 quotient (fin u m e) s h v t =
-    round-finite binary32 (unlike u false) (m * up e * 1) (totalFactor * down e) h 1 (mul-pos (lit< tt) (down-pos e)) (zero-lt-suc 0) (below (m * up e) (down e) h (v .1)) t
+    round-finite binary32 (unlike u false) (m * up e * 1) (totalFactor * down e) h 1 (mul-pos (lit< tt) (down-pos e)) (zero-lt-suc 0)
+    (below (m * up e) (down e) h (v .1)) t
   where
     below : (x d h : ℕ) → x * 1 ≡ h * d → x * 1 * 1 ≤ h * (totalFactor * d)
     below x d h e = omega (arith, e)
@@ -152,12 +156,15 @@ unfolding valueGiven
 value-given-finite total h =
     rw thousand
     (quotient (ofInt binary32 (highest24ℤ total)) (not (nonNeg total)) (highest24 (natAbs total)) (value-exact total h)
-    (value-finite (round binary32 false (highest24 (natAbs total)) 1) false (highest24 (natAbs total)) 1 (highest-value false (natAbs total) (lt-of-le-of-lt h (lit< tt)))))
+    (value-finite (round binary32 false (highest24 (natAbs total)) 1) false (highest24 (natAbs total)) 1
+    (highest-value false (natAbs total) (lt-of-le-of-lt h (lit< tt)))))
 
 -- the bits given stand for that value
 pub given-is : (total : ℤ) → floatOf (givenBits total) ≡ valueGiven total
 unfolding givenBits valueGiven
-given-is total = float-back (div binary32 (ofInt binary32 (highest24ℤ total)) (ofInt binary32 (pos totalFactor))) (div-fits binary32 (ofInt binary32 (highest24ℤ total)) (ofInt binary32 (pos totalFactor)))
+given-is total =
+    float-back (div binary32 (ofInt binary32 (highest24ℤ total)) (ofInt binary32 (pos totalFactor)))
+    (div-fits binary32 (ofInt binary32 (highest24ℤ total)) (ofInt binary32 (pos totalFactor)))
 
 -- ---- how far two totals lie apart
 
@@ -209,12 +216,14 @@ pub next-near : (setTot : ℕ) (presetTot : Float) (a b z : ℤ) → natAbs (nex
 unfolding nextTotal sumOf
 next-near setTot presetTot a b z = go (eqb setTot 0) (eqb setTot 1)
   where
-    go : (t u : Bool) → natAbs (cond t (sumOf a z) (cond u (pos 0) (thousandthsOf presetTot)) -ℤ cond t (sumOf b z) (cond u (pos 0) (thousandthsOf presetTot))) ≤ natAbs (a -ℤ b)
+    go : (t u : Bool) → natAbs
+        (cond t (sumOf a z) (cond u (pos 0) (thousandthsOf presetTot)) -ℤ cond t (sumOf b z) (cond u (pos 0) (thousandthsOf presetTot))) ≤ natAbs (a -ℤ b)
     go true u = limit-sum-near totalLimit a b z
     go false true = zero-le
     go false false = le-trans (same (thousandthsOf presetTot)) zero-le
 
-pub auto-near : (s : Settings) (a b : ℤ) (last : Kept) (bits status : ℕ) → natAbs (autoTotal s a last bits status -ℤ autoTotal s b last bits status) ≤ natAbs (a -ℤ b)
+pub auto-near : (s : Settings) (a b : ℤ) (last : Kept) (bits status : ℕ)
+    → natAbs (autoTotal s a last bits status -ℤ autoTotal s b last bits status) ≤ natAbs (a -ℤ b)
 unfolding autoTotal
 auto-near s a b last bits status = next-near (s .«set_tot») (s .«preset_tot») a b (tickAdds (s .«mode_tot») (s .«fail_tot») last bits status)
 
@@ -230,7 +239,9 @@ increments-near setTot presetTot modeTot total a b = go (eqb setTot 0) (eqb setT
     y : ℤ
     y = wanted modeTot b
 
-    go : (t u : Bool) → natAbs (cond t (sumOf total x) (cond u (pos 0) (thousandthsOf presetTot)) -ℤ cond t (sumOf total y) (cond u (pos 0) (thousandthsOf presetTot))) ≤ natAbs (a -ℤ b)
+    go : (t u : Bool) → natAbs
+        (cond t (sumOf total x) (cond u (pos 0) (thousandthsOf presetTot)) -ℤ cond t (sumOf total y) (cond u (pos 0) (thousandthsOf presetTot))) ≤ natAbs
+        (a -ℤ b)
     go true u = rw (+ℤ-comm total x, +ℤ-comm total y) (le-trans (limit-sum-near totalLimit x y total) (wanted-near modeTot a b))
     go false true = zero-le
     go false false = le-trans (same (thousandthsOf presetTot)) zero-le

@@ -1,4 +1,4 @@
--- TOT's state when fresh, after an accepted write of TOTAL and after a warm start, from paper 01, "Parameters", "Mode" and "History rules". Assumes nothing.
+-- TOT's state when fresh, after an accepted write of TOTAL and after a warm start: document 01, Parameters, Mode and History rules. Assumes nothing.
 use Prim.Native.Nat.{ℕ}
 use lib.IntN.{pos}
 use Rattle.numbers.specs.Floats.{floatOf}
@@ -6,11 +6,11 @@ use Rattle.blocks.specs.Common.{outOfService, heldOut, none}
 use Rattle.tot.specs.declared.State.{State}
 use Rattle.tot.specs.Total.{thousandthsOf}
 
--- "its status kept for Man (fresh: 0x4C)"
+-- P15: the operator's status before a write of TOTAL
 abbrev pub freshStatus : ℕ
 freshStatus = 0x4c
 
--- "The total is 0 at first."; "Fresh and after a warm start: actual O/S, status 0x1F. Fresh output values are 0."
+-- R13, M3, M4, P15: fresh: nothing counted, O/S, value 0 with 0x1F, no rate
 abbrev pub freshState : State
 freshState = record {
   total = pos 0;
@@ -20,7 +20,7 @@ freshState = record {
   «operator_status» = freshStatus;
 }
 
--- "TOTAL is set directly and its status kept for Man"; OUT and TOTAL read "as the value and status last given"
+-- P15: a written TOTAL is the total from then on, and its status is kept for ticks in Man. P14b: the pair that reads give stays
 abbrev pub writtenState : State → ℕ → ℕ → State
 writtenState st bits status = record {
   total = thousandthsOf (floatOf bits);
@@ -30,7 +30,7 @@ writtenState st bits status = record {
   «operator_status» = status;
 }
 
--- "A warm start keeps S, N, ST_REV, the total and output values, and forgets .. last usable values, operator's pairs (TOT's operator status too)"
+-- R17, M3: a warm start leaves the total, and the value under 0x1F in O/S; rate and operator's status are as fresh
 abbrev pub warmStarted : State → State
 warmStarted st = record {
   total = st .total;

@@ -1,4 +1,4 @@
-// TOT, the totalizer: its settings, its state and its tick (paper 01, "TOT tick" and "Mode").
+// TOT, the totalizer: its settings, its state and its tick (document 01, TOT tick and Mode).
 ghost use mathlib.Core.Path.{_≡_};
 ghost use Rattle.tot.specs.Total.{incrementOf, wanted, thousandthsOf, givenBits, nextTotal};
 ghost use Rattle.tot.specs.Tick.{failRate, addedRate, adds, lastRate, failStatus, autoStatus, autoTick, manTick, outOfServiceTick, tickOf};

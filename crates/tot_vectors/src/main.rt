@@ -1,4 +1,4 @@
-// Ticks of TOT worked from paper 01, one line each: fault flag, transducer's bits and status, then total, bits and status
+// Ticks of TOT worked from document 01, one line each: fault flag, transducer's bits and status, then total, bits and status
 // given, actual mode. What it would catch: an increment rounded down, a limit or a sign lost, 23 or 25 bits kept, a status of
 // another case, a total moved in Man or O/S, a rate remembered from the wrong tick.
 use tot::Settings;
@@ -171,7 +171,7 @@ fn limits() {
     st = step(s, st, false, 0xbf800000, 0x80); // -1
 }
 
-// MODE_TOT drops the sign not wanted, or all; the status stays the input's. A code past the list counts as hold.
+// MODE_TOT passes both signs, one or none; the status stays the input's. A code past the list counts as hold.
 fn signs() {
     io::write_all(OUT, b"signs\n");
     let mut st = tot::fresh();
@@ -223,7 +223,7 @@ fn failures_hold() {
     st = step(s, st, false, 0x3f800000, 0x00); // 1
 }
 
-// FAIL_TOT memory: the last usable Auto rate by the present MODE_TOT; a code past the list counts as memory.
+// FAIL_TOT memory: the rate of an earlier usable tick, under the MODE_TOT of this one; a code past the list counts as memory.
 fn memory() {
     io::write_all(OUT, b"memory\n");
     let mut st = tot::fresh();
@@ -257,7 +257,7 @@ fn memory() {
     st = step(s, st, false, 0x41100000, 0x00); // 9
 }
 
-// SET_TOT acts in every Auto tick, usable or not, with the status that run would have given, and in no other mode.
+// SET_TOT acts in every Auto tick, whatever its input, under the status of run, and in no other mode.
 fn reset_and_preset() {
     io::write_all(OUT, b"reset and preset\n");
     let mut st = at(123456);

@@ -1,4 +1,4 @@
--- A pair on the bus and back, from paper 01, "Status byte", with the refusal of "Refused calls". Assumes nothing.
+-- A pair on the bus and back, document 01, Status byte, with a refusal of Refused calls. Assumes nothing.
 use Prim.Native.Nat.{ℕ, _+_, _*_, _/_, _%_, _^_}
 use mathlib.Core.Bool.{Bool, cond}
 use mathlib.Core.List.{List, [], _∷_, _++_}
@@ -9,11 +9,11 @@ use Rattle.wire.specs.Refusal.{ground}
 use Rattle.wire.specs.declared.Answer.{Answer}
 use Rattle.wire.specs.declared.Received.{Received}
 
--- a 32-bit word, "highest byte first"
+-- S4: a 32-bit word, from its highest byte on
 abbrev pub wordBytes : ℕ → List ℕ
 wordBytes n = n / 2 ^ 24 ∷ n / 2 ^ 16 % 256 ∷ n / 2 ^ 8 % 256 ∷ n % 256 ∷ []
 
--- "On the bus a value is its float, highest byte first, then its status: five bytes."
+-- S4: a pair on the bus: the value's word, and the status behind it
 abbrev pub fiveBytes : Pair → List ℕ
 fiveBytes p = wordBytes (p .bits) ++ (p .status ∷ [])
 
@@ -21,9 +21,11 @@ fiveBytes p = wordBytes (p .bits) ++ (p .status ∷ [])
 abbrev pub wordOf : ℕ → ℕ → ℕ → ℕ → ℕ
 wordOf a b c d = a * 2 ^ 24 + b * 2 ^ 16 + c * 2 ^ 8 + d
 
--- the pair of exactly five bytes; "telegram not 5 bytes": refused
+-- F9: the pair of exactly five bytes; any other number of them is refused
 unfoldable pub pairOf : List ℕ → Received
-pairOf s = cond (eqb (length s) 5) (Received.Value (record { bits = wordOf (getD s 0 0) (getD s 1 0) (getD s 2 0) (getD s 3 0); status = getD s 4 0 })) (Received.Refused (ground 7))
+pairOf s =
+    cond (eqb (length s) 5) (Received.Value (record { bits = wordOf (getD s 0 0) (getD s 1 0) (getD s 2 0) (getD s 3 0); status = getD s 4 0 }))
+    (Received.Refused (ground 7))
 
 -- bs in the place of as many bytes of s from at on, the bytes before and after unchanged
 abbrev pub replaced : List ℕ → ℕ → List ℕ → List ℕ

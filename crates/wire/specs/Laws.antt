@@ -47,7 +47,8 @@ case-of-limits High = refl
 case-of-limits Constant = refl
 
 -- a number 0 to 3 is the number of its case
-number-of-case : {A : Type 0} (number : A → ℕ) (a b c d : A) → number a ≡ 0 → number b ≡ 1 → number c ≡ 2 → number d ≡ 3 → (n : ℕ) → n < 4 → number (caseOf a b c d n) ≡ n
+number-of-case : {A : Type 0} (number : A → ℕ) (a b c d : A) → number a ≡ 0 → number b ≡ 1 → number c ≡ 2 → number d ≡ 3 → (n : ℕ) → n < 4
+    → number (caseOf a b c d n) ≡ n
 number-of-case {A} number a b c d ea eb ec ed n h = at-0 (eqb n 0) refl
   where
     at-2 : (t : Bool) → eqb n 2 ≡ t → (n ≡ 0 → ⊥) → (n ≡ 1 → ⊥) → number (cond t c d) ≡ n
@@ -96,7 +97,13 @@ pair-of-five p h =
 five : (s : List ℕ) → length s ≡ 5 → s ≡ getD s 0 0 ∷ getD s 1 0 ∷ getD s 2 0 ∷ getD s 3 0 ∷ getD s 4 0 ∷ []
 five s h =
     drop-cons s 0 0 (omega arith)
-    ∙ rw (drop-cons s 1 0 (omega arith), drop-cons s 2 0 (omega arith), drop-cons s 3 0 (omega arith), drop-cons s 4 0 (omega arith), drop-of-length-le s {i = 5} (omega arith))
+    ∙ rw (
+      drop-cons s 1 0 (omega arith),
+      drop-cons s 2 0 (omega arith),
+      drop-cons s 3 0 (omega arith),
+      drop-cons s 4 0 (omega arith),
+      drop-of-length-le s {i = 5} (omega arith),
+    )
 
 -- five bytes are put together again from the pair that they stand for
 pub five-of-pair : (s : List ℕ) (p : Pair) → ((i : ℕ) → getD s i 0 < 256) → pairOf s ≡ Received.Value p → fiveBytes p ≡ s
@@ -147,7 +154,12 @@ pub image-puts : (s : List ℕ) (ain tot ao : Pair) → 15 ≤ length s → putB
 image-puts s ain tot ao h =
     let l = put-length s 0 ain in
     let m = put-length (putBytes s 0 ain) 5 tot in
-    rw (put-accepted (putBytes (putBytes s 0 ain) 5 tot) 10 ao (omega arith), put-accepted (putBytes s 0 ain) 5 tot (omega arith), put-accepted s 0 ain (omega arith), image-accepted s ain tot ao h)
+    rw (
+      put-accepted (putBytes (putBytes s 0 ain) 5 tot) 10 ao (omega arith),
+      put-accepted (putBytes s 0 ain) 5 tot (omega arith),
+      put-accepted s 0 ain (omega arith),
+      image-accepted s ain tot ao h,
+    )
     (rw (drop-drop 5 5 s, drop-drop 5 10 s))
 
 pub part-given : (s : List ℕ) (block : ℕ) → 15 ≤ length s → 1 ≤ block → block ≤ 3 → partOf s block ≡ take 5 (drop (5 * (block - 1)) s)
@@ -156,10 +168,12 @@ part-given s block h low high = rw (le-leb 15 (length s) h, le-leb 1 block low, 
 
 -- each block's part of an image is its five bytes
 pub part-of-image : (s : List ℕ) (ain tot ao : Pair) → 15 ≤ length s →
-    (partOf (imageBytes s ain tot ao) 1 ≡ fiveBytes ain) × (partOf (imageBytes s ain tot ao) 2 ≡ fiveBytes tot) × (partOf (imageBytes s ain tot ao) 3 ≡ fiveBytes ao)
+    (partOf (imageBytes s ain tot ao) 1 ≡ fiveBytes ain) × (partOf (imageBytes s ain tot ao) 2 ≡ fiveBytes tot)
+    × (partOf (imageBytes s ain tot ao) 3 ≡ fiveBytes ao)
 part-of-image s ain tot ao h = (at 1 (omega arith) (omega arith), at 2 (omega arith) (omega arith), at 3 (omega arith) (omega arith))
   where
-    at : (block : ℕ) → 1 ≤ block → block ≤ 3 → partOf (imageBytes s ain tot ao) block ≡ take 5 (drop (5 * (block - 1)) (fiveBytes ain ++ fiveBytes tot ++ fiveBytes ao ++ drop 15 s))
+    at : (block : ℕ) → 1 ≤ block → block ≤ 3
+        → partOf (imageBytes s ain tot ao) block ≡ take 5 (drop (5 * (block - 1)) (fiveBytes ain ++ fiveBytes tot ++ fiveBytes ao ++ drop 15 s))
     at block low high =
         part-given (imageBytes s ain tot ao) block (omega (arith, image-length s ain tot ao)) low high
         ∙ rw (image-accepted s ain tot ao h)

@@ -1,4 +1,4 @@
--- The numbers of refused calls, from paper 01, "Refused calls". Assumes nothing.
+-- The numbers of refused calls, document 01, Refused calls. Assumes nothing.
 use Prim.Native.Nat.{ℕ}
 use mathlib.Core.Path.{_≡_, refl}
 use mathlib.Core.Bool.{cond}
@@ -9,21 +9,21 @@ use Rattle.wire.specs.declared.Answer.{Answer}
 use Rattle.wire.specs.declared.Answer.the-variants.{Accepted, Refused}
 
 abbrev pub refusalNumber : Refusal → ℕ
--- "block over 3"
+-- F3: there are blocks 0 to 3
 refusalNumber NoSuchBlock = 1
--- "block lacks the parameter"
+-- F4: the block has none of this number
 refusalNumber NoSuchParameter = 2
--- "written parameter is R"
+-- F5: a write to one that is read only
 refusalNumber ReadOnly = 3
--- "WRITE_LOCKING 0, another parameter"
+-- F6: a write under the lock, but to the lock
 refusalNumber Locked = 4
--- "words not allowed"
+-- F7: a write of words that the parameter does not take
 refusalNumber WordsNotAllowed = 5
--- "OUT or TOTAL, target not Man"
+-- F8: a write of an output, the target being another than Man
 refusalNumber NotMan = 6
--- "telegram not 5 bytes; image buffer under 15"
+-- F9: a telegram of more or fewer than five bytes; a buffer too short for an image
 refusalNumber WrongLength = 7
--- "no such setpoint input"
+-- F10: a telegram on another input than SP and RCAS_IN
 refusalNumber NoSuchInput = 8
 
 -- the ground of refusal with a number, by which the promises name it; a number that the table lacks counts as 8
@@ -48,7 +48,7 @@ ground-number NotMan = refl
 ground-number WrongLength = refl
 ground-number NoSuchInput = refl
 
--- "Returned: the number alone."; the paper leaves an accepted call's number free: 0
+-- F1: a refusal is answered by its number; for an accepted call the paper leaves it free: 0
 abbrev pub answerNumber : Answer → ℕ
 answerNumber Accepted = 0
 answerNumber (Refused r) = refusalNumber r

@@ -1,4 +1,4 @@
--- The status byte, from paper 01, "Status byte": its three parts as numbers, taken apart into cases and put together. Assumes nothing.
+-- The status byte, document 01, Status byte: its three parts as numbers, taken apart into cases and put together. Assumes nothing.
 use Prim.Native.Nat.{ℕ, _+_, _*_, _/_, _%_}
 use mathlib.Core.Bool.{cond}
 use lib.Dec.{eqb}
@@ -8,7 +8,7 @@ use Rattle.wire.specs.declared.status.Limits.{Limits}
 use Rattle.wire.specs.declared.status.Limits.the-variants.{Unlimited, Low, High, Constant}
 use Rattle.wire.specs.declared.status.Status.{Status}
 
--- "64 × quality + 4 × sub-status + limit bits"
+-- S1: the two highest bits, the four below them, and the two lowest
 abbrev pub qualityOf : ℕ → ℕ
 qualityOf status = status / 64
 
@@ -22,7 +22,7 @@ limitsOf status = status % 4
 abbrev pub caseOf : {A : Type 0} → A → A → A → A → ℕ → A
 caseOf a b c d n = cond (eqb n 0) a (cond (eqb n 1) b (cond (eqb n 2) c d))
 
--- "Quality 0 Bad, 1 Uncertain, 2 Good, 3 Good Cascade."
+-- S2: the qualities by their numbers
 abbrev pub qualityNumber : Quality → ℕ
 qualityNumber Bad = 0
 qualityNumber Uncertain = 1
@@ -32,7 +32,7 @@ qualityNumber GoodCascade = 3
 abbrev pub qualityCase : ℕ → Quality
 qualityCase = caseOf Bad Uncertain Good GoodCascade
 
--- "Limits 0 none, 1 low, 2 high, 3 constant."
+-- S3: the limits by their numbers
 abbrev pub limitsNumber : Limits → ℕ
 limitsNumber Unlimited = 0
 limitsNumber Low = 1
@@ -42,7 +42,7 @@ limitsNumber Constant = 3
 abbrev pub limitsCase : ℕ → Limits
 limitsCase = caseOf Unlimited Low High Constant
 
--- what a status byte says
+-- S1: what a status byte says
 unfoldable pub splitOf : ℕ → Status
 splitOf status = record { quality = qualityCase (qualityOf status); «sub_status» = subStatusOf status; limits = limitsCase (limitsOf status) }
 

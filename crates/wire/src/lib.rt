@@ -144,7 +144,7 @@ pub fn image(buf: &mut [u8], ain: Pair, tot: Pair, ao: Pair) -> Answer
     Answer::Accepted
 }
 
-// One block's five bytes, as that part of the image lent; an empty part at its front where the image is too short or
+// One block's five bytes, a part of the image lent; an empty part at its front where the image is too short or
 // the block is not in it.
 pub fn part(buf: &[u8], block: u8) -> &[u8]
     ensures { λ r. ⌜ now r ≡ partOf (now (buf .entry)) block ⌝ }

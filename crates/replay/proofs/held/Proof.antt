@@ -1,4 +1,4 @@
--- `replay::held` is safe and ends: the line keeps its length, and the measure is what is left to copy.
+-- `replay::held` is safe and ends: the line keeps its length, and the measure is what has still to be copied.
 use Prim.Native.Nat.{_≤_, _-_}
 use mathlib.Core.Path.{_≡_, refl}
 use native.Mathlib.Omega.{arith}

@@ -1,4 +1,4 @@
--- `replay::line_end` is safe and ends: its place lies within the chunk, and the measure is what is left of it.
+-- `replay::line_end` is safe and ends: its place lies within the chunk, and the measure is the rest of it.
 use Prim.Native.Nat.{_≤_, _-_}
 use native.Mathlib.Omega.{arith}
 use lib.ListN.{length}

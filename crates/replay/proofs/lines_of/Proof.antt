@@ -1,4 +1,4 @@
--- `replay::lines_of` is safe and ends: the line held lies within its buffer, and the measure is what is left of the chunk.
+-- `replay::lines_of` is safe and ends: the line held lies within its buffer, and the measure is the rest of the chunk.
 use Prim.Native.Nat.{_≤_, _-_}
 use mathlib.Core.Path.{_≡_, refl}
 use native.Mathlib.Omega.{arith}

@@ -1,4 +1,4 @@
--- `text::copy` meets its contract. The loop's invariant: the first i bytes are in place, `lib.Seq`'s `paste`; the measure is what is left of them.
+-- `text::copy` meets its contract, with this loop invariant: the first i bytes are in place, `lib.Seq`'s `paste`; the measure is the rest of them.
 use Prim.Native.Nat.{_≤_, _-_}
 use mathlib.Core.Path.{_≡_, refl}
 use native.Mathlib.Omega.{arith}

@@ -1,4 +1,4 @@
--- `text::decimal` meets its contract. The loop's invariant: the digits of `rest`, in at most `left` places, and then those written from `left + 1` on are n's; the measure is `left`.
+-- `text::decimal` meets its contract, with this loop invariant: the digits of `rest`, in at most `left` places, and then those written from `left + 1` on are n's; the measure is `left`.
 use Prim.Native.Nat.{ℕ, zero, suc, _+_, _-_, _/_, _%_, _^_, _≤_, _<_}
 use mathlib.Core.Path.{_≡_, _∙_}
 use mathlib.Core.List.{List, _++_, append-assoc, append-nil}

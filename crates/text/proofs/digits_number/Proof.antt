@@ -1,4 +1,4 @@
--- `text::digits_number` meets its contract. The loop's invariant: the value of the digits to come after `sum` is that of all, and they are digits if all are; the measure is what is left of them. Where the sum would pass the limit, the value does, since it only grows.
+-- `text::digits_number` meets its contract, with this loop invariant: the value of the digits to come after `sum` is that of all, and they are digits if all are; the measure is the rest of them. Where the sum would pass the limit, the value does, since it only grows.
 use Prim.Native.Nat.{ℕ, _+_, _-_, _*_, _≤_, _<_}
 use mathlib.Core.Path.{_≡_, refl, sym, _∙_}
 use mathlib.Core.Bool.{_&&_, and-false}

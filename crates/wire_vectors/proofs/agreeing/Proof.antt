@@ -1,4 +1,4 @@
--- `wire_vectors::agreeing` is safe and ends: the measure is what is left of the 256.
+-- `wire_vectors::agreeing` is safe and ends: the measure is the rest of the 256.
 use borrow.Author.Needs.{needs}
 use Prim.Native.Nat.{_≤_, _-_}
 use Rattle.wire_vectors.proofs.agreeing.Statement.{statement}

@@ -1,4 +1,4 @@
--- `wire_vectors::all_parts` is safe and ends: the measure is what is left of the sixteen rows.
+-- `wire_vectors::all_parts` is safe and ends: the measure is the rest of the sixteen rows.
 use borrow.Author.Needs.{needs}
 use Prim.Native.Nat.{_≤_, _-_}
 use Rattle.wire_vectors.proofs.all_parts.Statement.{statement}

@@ -1,4 +1,4 @@
--- `wire_vectors::parts_row` is safe and ends: the line keeps its length, and the measure is what is left of the sixteen.
+-- `wire_vectors::parts_row` is safe and ends: the line keeps its length, and the measure is the rest of the sixteen.
 use borrow.Author.Needs.{needs}
 use Prim.Native.Nat.{_≤_, _-_}
 use mathlib.Core.Path.{_≡_}

@@ -1,4 +1,4 @@
--- `wire_vectors::put_row` is safe and ends: the line keeps its length, and the measure is what is left of the row.
+-- `wire_vectors::put_row` is safe and ends: the line keeps its length, and the measure is the rest of the row.
 use borrow.Author.Needs.{needs}
 use Prim.Native.Nat.{_≤_, _-_}
 use mathlib.Core.Path.{_≡_}

@@ -1,4 +1,4 @@
--- `script::answers::put_row` meets its contract. The loop's invariant: what is left of the row, put from `next` on, gives what the whole row gives; the measure is what is left of it.
+-- `script::answers::put_row` meets its contract, with this loop invariant: what is left of the row, put from `next` on, gives what the whole row gives; the measure is the rest of it.
 use Prim.Native.Nat.{_≤_, _<_, _-_}
 use mathlib.Core.Path.{_≡_, refl}
 use native.Mathlib.Omega.{arith}

@@ -1,4 +1,4 @@
--- `script::words::bytes` meets its contract. The loop's invariant: the bytes stored with those to come are all; the measure is what is left of the buffer.
+-- `script::words::bytes` meets its contract, with this loop invariant: the bytes stored with those to come are all; the measure is the rest of the buffer.
 use Prim.Native.Nat.{_-_, _≤_}
 use mathlib.Core.Path.{_≡_, refl, _∙_}
 use mathlib.Core.List.{_++_}

@@ -1,4 +1,4 @@
--- `script::words::count` meets its contract. The loop's invariant: the words counted and those from `next` on, where a word or the line's end stands, make all; the measure is what is left of the line.
+-- `script::words::count` meets its contract, with this loop invariant: the words counted and those from `next` on, where a word or the line's end stands, make all; the measure is the rest of the line.
 use Prim.Native.Nat.{_+_, _-_, _≤_, _<_}
 use mathlib.Core.Path.{_≡_, ap}
 use mathlib.Core.Bool.{false}

@@ -1,4 +1,4 @@
--- `script::words::numbers` meets its contract. The loop's invariant: the limits and words to come fit if all do, and the values stored with those to come are all; the measure is what is left of the limits.
+-- `script::words::numbers` meets its contract, with this loop invariant: the limits and words to come fit if all do, and the values stored with those to come are all; the measure is the rest of the limits.
 use Prim.Native.Nat.{_-_, _≤_, _<_}
 use mathlib.Core.Path.{_≡_, refl, _∙_}
 use mathlib.Core.Bool.{_&&_, and-assoc}

@@ -1,4 +1,4 @@
--- `script::words::same` meets its contract. The loop's invariant: the strings are the same if what follows `i` is; the measure is what is left of the first.
+-- `script::words::same` meets its contract, with this loop invariant: the strings are the same if what follows `i` is; the measure is the rest of the first.
 use Prim.Native.Nat.{_≤_, _-_}
 use mathlib.Core.Path.{_≡_, refl, sym, _∙_}
 use native.Mathlib.Omega.{arith}

@@ -1,4 +1,4 @@
--- `script::words::spaces_end` meets its contract. The loop's invariant: the words from `i` on are those from `at` on; the measure is what is left of the line.
+-- `script::words::spaces_end` meets its contract, with this loop invariant: the words from `i` on are those from `at` on; the measure is the rest of the line.
 use Prim.Native.Nat.{_≤_, _-_}
 use mathlib.Core.Path.{_≡_, refl, _∙_}
 use native.Mathlib.Omega.{arith}

@@ -1,4 +1,4 @@
--- `script::words::word_end` meets its contract. The loop's invariant: with the bytes since `from` read, the words of what follows are those from `from` on; the measure is what is left of the line.
+-- `script::words::word_end` meets its contract, with this loop invariant: with the bytes since `from` read, the words of what follows are those from `from` on; the measure is the rest of the line.
 use Prim.Native.Nat.{_≤_, _<_, _-_}
 use mathlib.Core.Path.{_≡_, sym, _∙_}
 use native.Mathlib.Omega.{arith}
