@@ -62,6 +62,7 @@ class Spec:
         if re.search(r"--|\{-|-\}", text):
             raise Unread("crates/%s has a remark of a form that is not read" % self.path)
         text = re.sub(r"(?m)^((?:pub )?use \S+\.\{)([^}]*)\}", lambda match: "%s%s}" % (match[1], " ".join(match[2].split())), text)
+        text = re.sub(r"(?m)^ *module (?:.*(?<! where)\n)+.* where$", lambda match: re.sub(r"\n +", " ", match[0]), text)  # a head on some lines
         modules, here, held = [], None, None  # the modules around, the definition, and the depth of the line that may go on
         for line in text.splitlines():
             depth, body = len(line) - len(line.lstrip()), line.strip()
@@ -82,7 +83,7 @@ class Spec:
                 self.fixities.append(body)
             elif body.startswith("module "):
                 if not body.endswith(" where"):
-                    raise Unread("crates/%s: a module's head of more than a line: %s" % (self.path, body))
+                    raise Unread("crates/%s: a module's head without an end: %s" % (self.path, body))
                 modules.append((depth, body))
             elif value:
                 if value[1] in self.definitions:

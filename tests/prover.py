@@ -152,10 +152,7 @@ class Kit:
     """Where `rt` has the prover and what it reads: `rt doc` names a file in the kit's folder."""
 
     def __init__(self):
-        try:
-            page = subprocess.run(["rt", "doc"], stdout=subprocess.PIPE, text=True, check=True).stdout.strip()
-        except (OSError, subprocess.CalledProcessError):
-            raise Stop("rt, the Rattle command, is not on the PATH")
+        page = subprocess.run(["rt", "doc"], stdout=subprocess.PIPE, text=True, check=True).stdout.strip()
         self.home = os.path.dirname(os.path.dirname(page))
         self.own = os.path.join(self.home, "on", os.uname().machine)
 
@@ -340,8 +337,9 @@ class Progress:
             print("%s: %d of %d, some %d s left" % (self.what, self.done, self.total, left), file=sys.stderr, flush=True)
 
 
-def run(name, main, options, text):
-    """Runs main(words, options given); what is temporary is removed when it is stopped, too."""
+def run(name, main, options, text, needs=()):
+    """Runs main(words, options given); what is temporary is removed when it is stopped, too. Besides rt it needs some programs,
+    given in turns with what for."""
     signal.signal(signal.SIGTERM, lambda *_: sys.exit(143))
     words = sys.argv[1:]
     given = {word for word in words if word.startswith("-")}
@@ -351,6 +349,9 @@ def run(name, main, options, text):
             sys.exit(0)
         if given - set(options):
             raise Stop("no option %s; --help tells what there is" % min(given - set(options)))
+        missing = subprocess.run([os.path.join(ROOT, "tests/needs"), name, "rt", "its checks", *needs], stdout=subprocess.PIPE, text=True)
+        if missing.returncode != 0:
+            raise Stop("; ".join(missing.stdout.splitlines()) or "tests/needs does not run")
         sys.exit(main([word for word in words if word not in given], given))
     except Stop as stop:
         print("%s: %s" % (name, stop), file=sys.stderr)

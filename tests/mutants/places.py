@@ -677,7 +677,7 @@ def short(text, length):
 
 
 class Mutant:
-    """A change of a crate's file: new in place of old, from start to end; of a function or of a constant."""
+    """A change of a crate's file: new in place of old, from start to end, in a function or a constant."""
 
     def __init__(self, file, text, of, change, places):
         self.file, self.kind, self.start, self.end, self.new = file, change.kind, change.start, change.end, change.new
