@@ -1,30 +1,40 @@
 // Makes the calls of a call script, read from standard input, on one device, and writes a line of answer for each to
 // standard output. It holds a chunk of input, one line and the answers not yet written, whatever the input's length.
+// With --summary it tells on standard error, once all is read and written, what was answered.
+mod summary;
+
 ghost use Prim.Native.Nat.{_≤_, _<_};
 ghost use lib.ListN.{length};
 use ao::Order;
 use device::Answered;
 use device::Device;
 use device::Reading;
+use libc::STDERR_FILENO;
 use libc::STDIN_FILENO;
 use libc::STDOUT_FILENO;
 use script::Answer;
 use script::Command;
+use summary::Counts;
+use summary::Fails;
 use wire::Pair;
 use wire::Refusal;
 
-// The device after a call, and the place after its answer.
+// The device after a call, the call's answer, the place after it, and which blocks were in fail-safe, if it was a tick.
 struct Done {
     device: Device,
+    answer: Answer,
     place: usize,
+    fails: Fails,
 }
 
-// The device, how many bytes of a line and of answers are held, and whether answers can be written.
+// The device, how many bytes of a line and of answers are held, whether input could be read and answers written, and the counts.
 struct State {
     device: Device,
     length: usize,
     place: usize,
+    readable: bool,
     open: bool,
+    counts: Counts,
 }
 
 // The state after a chunk of input, and whether there is more.
@@ -35,12 +45,18 @@ struct Turn {
 
 // ---- calls
 
-fn reply(d: Device, answer: Answer, out: &mut [u8], at: usize) -> Done {
-    let place = script::put_answer(out, at, answer, b"");
+fn finished(d: Device, answer: Answer, place: usize) -> Done {
     Done {
         device: d,
+        answer: answer,
         place: place,
+        fails: summary::none(),
     }
+}
+
+fn reply(d: Device, answer: Answer, out: &mut [u8], at: usize) -> Done {
+    let place = script::put_answer(out, at, answer, b"");
+    finished(d, answer, place)
 }
 
 fn answer_of(answer: wire::Answer) -> Answer {
@@ -75,7 +91,9 @@ fn tick(d: Device, fault: bool, ain: Pair, tot: Pair, out: &mut [u8], at: usize)
     let ticked = device::tick(d, fault, ain, tot);
     let order = ticked.order;
     let shown = order_of(order);
-    reply(ticked.device, shown, out, at)
+    let mut next = reply(ticked.device, shown, out, at);
+    next.fails = summary::failing(d, fault, ain);
+    next
 }
 
 // The bytes' buffer is lent with the length that they have.
@@ -110,10 +128,7 @@ fn image_in(d: Device, room: &mut [u8], out: &mut [u8], at: usize) -> Done {
     match answer {
         wire::Answer::Accepted => {
             let place = script::put_answer(out, at, Answer::Bytes, room);
-            Done {
-                device: d,
-                place: place,
-            }
+            finished(d, Answer::Bytes, place)
         }
         wire::Answer::Refused(refusal) => reply(
             d,
@@ -205,10 +220,7 @@ fn part(d: Device, block: u8, length: usize, out: &mut [u8], at: usize) -> Done
     let room = RISING;
     let part = device::part(&room[..length], block);
     let place = script::put_answer(out, at, Answer::Bytes, part);
-    Done {
-        device: d,
-        place: place,
-    }
+    finished(d, Answer::Bytes, place)
 }
 
 // Makes the call that a line asks for.
@@ -252,19 +264,21 @@ fn run(d: Device, line: &[u8], out: &mut [u8], at: usize) -> Done {
 
 // ---- output
 
-// Writes the answers that are held.
+// Writes the answers that are held. After a write that failed nothing is written: answers with a hole would look whole.
 fn flushed(s: State, out: &[u8]) -> State
     ensures { λ r. ⌜ r .length ≤ s .length ⌝ }
 {
     let place = s.place;
     let mut next = s;
     next.place = 0;
+    if !s.open {
+        return next;
+    }
     if place > out.len() {
         next.open = false;
         return next;
     }
-    let open = io::write_all(STDOUT_FILENO, &out[..place]);
-    next.open = open & s.open;
+    next.open = io::write_all(STDOUT_FILENO, &out[..place]);
     next
 }
 
@@ -284,18 +298,41 @@ fn with_room(s: State, out: &[u8]) -> State
 
 // ---- lines
 
+// Of a line that is not too long: of a longer one, not all is held.
+fn ends_in_return(line: &[u8]) -> bool {
+    let n = line.len();
+    if n == 0 {
+        return false;
+    }
+    if n > 4096 {
+        return false;
+    }
+    line[n - 1] == b'\r'
+}
+
 // The line that is held is whole.
 fn line_ended(s: State, line: &[u8], out: &mut [u8]) -> State
     requires { ⌜ s .length ≤ length (now line) ⌝ }
     ensures { λ r. ⌜ r .length ≤ 0 ⌝ }
 {
     let length = s.length;
-    let done = run(s.device, &line[..length], out, s.place);
-    let device = done.device;
+    let returns = ends_in_return(&line[..length]);
+    let made = run(s.device, &line[..length], out, s.place);
+    let device = made.device;
+    let answer = made.answer;
+    let counts = summary::counted(
+        s.counts,
+        s.device.ain.state.alarms,
+        device.ain.state.alarms,
+        answer,
+        made.fails,
+        returns,
+    );
     let mut next = s;
     next.device = device;
+    next.counts = counts;
     next.length = 0;
-    next.place = done.place;
+    next.place = made.place;
     with_room(next, out)
 }
 
@@ -374,8 +411,10 @@ fn next_chunk(s: State, input: &mut [u8], line: &mut [u8], out: &mut [u8]) -> Tu
     let got = libc::read(STDIN_FILENO, input);
     if got < 0 {
         os::fail(b"standard input");
+        let mut state = s;
+        state.readable = false;
         return Turn {
-            state: s,
+            state: state,
             more: false,
         };
     }
@@ -404,25 +443,28 @@ fn turns_left(turns: u64, more: bool) -> u64
     0
 }
 
-// A last line without 0x0A counts as well.
-fn input_ended(s: State, line: &[u8], out: &mut [u8])
+// A last line without 0x0A counts as well, but not what came of a line before a read that failed.
+fn input_ended(s: State, line: &[u8], out: &mut [u8]) -> State
     requires { ⌜ s .length ≤ length (now line) ⌝ }
 {
-    let last = s.length > 0;
+    let last = (s.length > 0) & s.readable;
     let state = flushed(line_ended_if(last, s, line, out), out);
     if !state.open {
         os::fail(b"standard output");
     }
+    state
 }
 
 // Reads to the input's end. A proved loop has to end, and nothing says that input does: so it counts its turns down, from a
 // number that no run uses up.
-fn replay(input: &mut [u8], line: &mut [u8], out: &mut [u8]) {
+fn replay(input: &mut [u8], line: &mut [u8], out: &mut [u8]) -> State {
     let mut state = State {
         device: device::factory(),
         length: 0,
         place: 0,
+        readable: true,
         open: true,
+        counts: summary::nothing(),
     };
     let mut turns = u64::MAX;
     while turns > 0 {
@@ -430,12 +472,51 @@ fn replay(input: &mut [u8], line: &mut [u8], out: &mut [u8]) {
         state = next.state;
         turns = turns_left(turns, next.more);
     }
-    input_ended(state, line, out);
+    input_ended(state, line, out)
 }
 
-fn main() {
+// ---- arguments
+
+enum Asked {
+    Answers,
+    Summary,
+    Other,
+}
+
+fn wanted() -> Asked {
+    let count = os::arg_count();
+    if count < 2 {
+        return Asked::Answers;
+    }
+    let mut word = [0u8; 16];
+    let n = os::arg(1, &mut word);
+    let summary = check::same(&word[..n], b"--summary");
+    if summary & (count == 2) {
+        return Asked::Summary;
+    }
+    Asked::Other
+}
+
+fn replay_all(summary: bool) {
     let mut input = io::large_buffer();
     let mut line = [0u8; 4097];
     let mut out = io::large_buffer();
-    replay(&mut input, &mut line, &mut out);
+    let state = replay(&mut input, &mut line, &mut out);
+    if summary & state.readable & state.open {
+        summary::tell(state.counts);
+    }
+}
+
+fn main() {
+    let asked = wanted();
+    match asked {
+        Asked::Answers => replay_all(false),
+        Asked::Summary => replay_all(true),
+        Asked::Other => {
+            io::write_all(
+                STDERR_FILENO,
+                b"replay: reads a call script on standard input; its one argument is --summary\n",
+            );
+        }
+    }
 }

@@ -10,4 +10,4 @@ slice-aggregate-write-all : tie.Need-slice-aggregate-write-all
 slice-aggregate-write-all c = sym (length-take-le _ _ (omega arith))
 
 pub flushed-spec : {M : Type 1} → statement M
-flushed-spec = tie.close (tie.spec (λ c. search needs) slice-aggregate-write-all (λ c κs. search needs) (λ c. search needs))
+flushed-spec = tie.close (tie.spec (λ c. search needs) (λ c. search needs) slice-aggregate-write-all (λ c κs. search needs) (λ c. search needs))

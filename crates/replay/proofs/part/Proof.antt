@@ -17,5 +17,6 @@ part-spec =
     slice-aggregate-part
     (λ c κs. search needs)
     (λ c κs. search needs)
+    (λ c κs. search needs)
     (λ c. search needs)
     (λ c. search needs))

@@ -16,6 +16,9 @@ abbrev μ-loop : tie.MeasureT-loop
 factory-requires : tie.Need-factory-requires Inv-loop μ-loop
 factory-requires c κs = search needs
 
+nothing-requires : tie.Need-nothing-requires Inv-loop μ-loop
+nothing-requires c κs = search needs
+
 loop-holds : tie.Need-loop-holds Inv-loop μ-loop
 loop-holds c = (refl, refl, refl, omega arith)
 
@@ -53,6 +56,7 @@ replay-spec =
     Inv-loop
     μ-loop
     factory-requires
+    nothing-requires
     loop-holds
     next-chunk-requires
     turns-left-requires
