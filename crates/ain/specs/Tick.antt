@@ -1,10 +1,13 @@
--- AIN's tick, document 01, AIN tick and Mode. Assumes nothing.
+-- AIN's tick, document 01, AIN tick and Mode, and document 02, request 1. Assumes nothing.
 use Prim.Native.Nat.{ℕ}
 use mathlib.Core.Bool.{Bool, _&&_, cond}
 use lib.Dec.{eqb}
 use lib.Ieee.{Float}
 use lib.Ieee.Scale.{finite}
 use Rattle.numbers.specs.Floats.{floatOf, bitsOf}
+use Rattle.linearisation.specs.declared.Table.{Table}
+use Rattle.linearisation.specs.Table.{pairsOf}
+use Rattle.linearisation.specs.Value.{valueAt}
 use Rattle.wire.specs.declared.Pair.{Pair}
 use Rattle.blocks.specs.declared.Kept.{Kept}
 use Rattle.blocks.specs.declared.Input.{Input}
@@ -15,17 +18,22 @@ use Rattle.ain.specs.declared.State.{State}
 use Rattle.ain.specs.Scaling.{scaledOf, filtered}
 use Rattle.ain.specs.Alarm.{alarmsOf, noAlarms, alarmStatus}
 
+-- Q1.3, Q1.5: the value that is scaled: under LIN_TYPE 1 what the table makes of the transducer's, otherwise that itself
+unfoldable pub measured : ℕ → Table → Float → Float
+measured linType table x = cond (eqb linType 1) (valueAt (pairsOf table) x) x
+
 -- A1, A4: the scaled value of a transducer's bits, and PV, the calculated value
-unfoldable pub scaledValue : Settings → ℕ → Float
-scaledValue s bits = scaledOf (s .«pv_scale») (s .«out_scale») (floatOf bits)
+unfoldable pub scaledValue : Settings → Table → ℕ → Float
+scaledValue s table bits = scaledOf (s .«pv_scale») (s .«out_scale») (measured (s .«lin_type») table (floatOf bits))
 
-unfoldable pub calculated : Settings → Kept → ℕ → Float
-calculated s filter bits = filtered (s .«pv_ftime») filter (scaledValue s bits)
+unfoldable pub calculated : Settings → Table → Kept → ℕ → Float
+calculated s table filter bits = filtered (s .«pv_ftime») filter (scaledValue s table bits)
 
--- A5: the input status of a tick, by whether its value, and both the scaled and the filtered one, are finite
-unfoldable pub inputOf : Settings → Kept → ℕ → ℕ → Input
-inputOf s filter bits status =
-    inputStatus status (finite (floatOf bits)) (finite (scaledValue s bits) && finite (calculated s filter bits))
+-- A5: the input status of a tick, by whether its value, and both the scaled and the filtered one, are finite. Q1.8: a value that the table made
+-- and that isn't finite is scaled to one that isn't (Laws, scaled-unfinished)
+unfoldable pub inputOf : Settings → Table → Kept → ℕ → ℕ → Input
+inputOf s table filter bits status =
+    inputStatus status (finite (floatOf bits)) (finite (scaledValue s table bits) && finite (calculated s table filter bits))
 
 -- A8: an Auto tick that isn't usable, by FSAFE_TYPE: 0 gives FSAFE_VALUE with 0x48; 1 the value that was last usable with 0x44, or, if none was since start,
 -- 0 with 0x4C; 2 the scaled value, or the old one of OUT if that isn't finite, under the Bad status. A type over 2, which no write stores, counts as 2
@@ -63,13 +71,13 @@ unusableTick s st mode scaled bad =
     }
 
 -- A6: an Auto tick by its input status
-unfoldable pub autoBy : Settings → State → ℕ → ℕ → ℕ → Input → State
-autoBy s st mode bits status Usable = usableTick s st mode (calculated s (st .filter) bits) status
-autoBy s st mode bits status (Bad bad) = unusableTick s st mode (scaledValue s bits) bad
+unfoldable pub autoBy : Settings → Table → State → ℕ → ℕ → ℕ → Input → State
+autoBy s table st mode bits status Usable = usableTick s st mode (calculated s table (st .filter) bits) status
+autoBy s table st mode bits status (Bad bad) = unusableTick s st mode (scaledValue s table bits) bad
 
-unfoldable pub autoTick : Settings → State → ℕ → ℕ → ℕ → State
+unfoldable pub autoTick : Settings → Table → State → ℕ → ℕ → ℕ → State
 unfolding autoBy
-autoTick s st mode bits status = autoBy s st mode bits status (inputOf s (st .filter) bits status)
+autoTick s table st mode bits status = autoBy s table st mode bits status (inputOf s table (st .filter) bits status)
 
 -- A9: Man gives the operator's pair, by whose value alarms go. A3: the filter is emptied
 unfoldable pub manTick : Settings → State → State
@@ -94,11 +102,11 @@ outOfServiceTick st = record {
 }
 
 -- M1: by the actual mode; a code that is neither O/S nor Man counts as Auto
-unfoldable pub tickBy : Settings → State → ℕ → ℕ → ℕ → State
-tickBy s st mode bits status =
+unfoldable pub tickBy : Settings → Table → State → ℕ → ℕ → ℕ → State
+tickBy s table st mode bits status =
     cond (eqb mode outOfService) (outOfServiceTick st)
-    (cond (eqb mode man) (manTick s st) (autoTick s st mode bits status))
+    (cond (eqb mode man) (manTick s st) (autoTick s table st mode bits status))
 
-unfoldable pub tickOf : Settings → State → Bool → ℕ → ℕ → State
+unfoldable pub tickOf : Settings → Table → State → Bool → ℕ → ℕ → State
 unfolding tickBy
-tickOf s st fault bits status = tickBy s st (actualMode fault (s .target)) bits status
+tickOf s table st fault bits status = tickBy s table st (actualMode fault (s .target)) bits status

@@ -1,4 +1,5 @@
-// AIN, the analog input block: its settings, its state and its tick (document 01, AIN tick and Mode).
+// AIN, the analog input block: its settings, its state and its tick (document 01, AIN tick and Mode;
+// document 02, request 1).
 ghost use mathlib.Core.Path.{_≡_};
 ghost use Rattle.ain.specs.Scaling.{scaledOf, filtered};
 ghost use Rattle.ain.specs.Alarm.{alarmStands, alarmsOf, alarmStatus, noAlarms};
@@ -6,6 +7,7 @@ ghost use Rattle.ain.specs.Tick.{failSafeOut, usableTick, unusableTick, 
 ghost use Rattle.ain.specs.State.{freshState, operatedState, warmStarted};
 use blocks::Input;
 use blocks::Kept;
+use linearisation::Table;
 use scaling::Scale;
 use wire::Pair;
 
@@ -15,6 +17,7 @@ pub struct Settings {
     pub target: u32,
     pub pv_scale: Scale,
     pub out_scale: Scale,
+    pub lin_type: u32,
     pub pv_ftime: f32,
     pub fsafe_type: u32,
     pub fsafe_value: f32,
@@ -47,6 +50,17 @@ pub struct State {
     pub last: Kept,
     pub operator: Pair,
     pub alarms: Alarms,
+}
+
+// The value that is scaled: under LIN_TYPE 1 by the table.
+fn measured(kind: u32, table: Table, x: f32) -> f32
+    ensures { λ r. ⌜ r ≡ Rattle.ain.specs.Tick.measured kind table x ⌝ }
+{
+    let by_table = kind == 1;
+    if by_table {
+        return linearisation::linearised(table, x);
+    }
+    x
 }
 
 fn scaled(x: f32, pv: Scale, out: Scale) -> f32
@@ -199,11 +213,12 @@ fn unusable_tick(s: Settings, st: State, mode: u32, scaled: f32, bad: u8) -> Sta
     }
 }
 
-fn auto_tick(s: Settings, st: State, mode: u32, bits: u32, status: u8) -> State
-    ensures { λ r. ⌜ r ≡ autoTick s st mode bits status ⌝ }
+fn auto_tick(s: Settings, table: Table, st: State, mode: u32, bits: u32, status: u8) -> State
+    ensures { λ r. ⌜ r ≡ autoTick s table st mode bits status ⌝ }
 {
     let x = numbers::floats::float_of(bits);
-    let scaled = scaled(x, s.pv_scale, s.out_scale);
+    let measured = measured(s.lin_type, table, x);
+    let scaled = scaled(measured, s.pv_scale, s.out_scale);
     let pv = filter(s.pv_ftime, st.filter, scaled);
     let value = numbers::floats::is_finite(x);
     let scaled_finite = numbers::floats::is_finite(scaled);
@@ -251,9 +266,9 @@ fn out_of_service_tick(st: State) -> State
     }
 }
 
-// The block's tick: the fault flag, and the transducer's value as its bits with its status.
-pub fn tick(s: Settings, st: State, fault: bool, bits: u32, status: u8) -> State
-    ensures { λ r. ⌜ r ≡ tickOf s st fault bits status ⌝ }
+// The block's tick: the table, the fault flag, and the transducer's value as its bits with its status.
+pub fn tick(s: Settings, table: Table, st: State, fault: bool, bits: u32, status: u8) -> State
+    ensures { λ r. ⌜ r ≡ tickOf s table st fault bits status ⌝ }
 {
     let mode = blocks::actual_mode(fault, s.target);
     let off = mode == blocks::OUT_OF_SERVICE;
@@ -264,7 +279,7 @@ pub fn tick(s: Settings, st: State, fault: bool, bits: u32, status: u8) -> State
     if man {
         return man_tick(s, st);
     }
-    auto_tick(s, st, mode, bits, status)
+    auto_tick(s, table, st, mode, bits, status)
 }
 
 pub fn fresh() -> State

@@ -3,6 +3,7 @@ use Prim.Native.Nat.{ℕ}
 use lib.Ieee.{Float}
 use Rattle.numbers.specs.Floats.{floatOf}
 use Rattle.scaling.specs.declared.Scale.{Scale}
+use Rattle.linearisation.specs.Table.{noTable}
 use Rattle.ain.specs.declared.Settings.{Settings as AinSettings}
 use Rattle.ain.specs.State.{freshState as freshAin}
 use Rattle.tot.specs.declared.Settings.{Settings as TotSettings}
@@ -33,6 +34,7 @@ ainBy v = record {
   target = codeBy v 1 5;
   «pv_scale» = scaleBy v 1 11;
   «out_scale» = scaleBy v 1 12;
+  «lin_type» = codeBy v 1 13;
   «pv_ftime» = floatBy v 1 16;
   «fsafe_type» = codeBy v 1 17;
   «fsafe_value» = floatBy v 1 18;
@@ -63,11 +65,11 @@ aoBy v = record {
   «increase_close» = codeBy v 3 36;
 }
 
--- C1, P4: the defaults, fresh blocks, and no static write yet
+-- C1, P4: the defaults, fresh blocks, no static write yet and no table
 unfoldable pub factoryDevice : Device
 factoryDevice = record {
   «write_locking» = codeBy defaultOf 0 18;
-  ain = record { settings = ainBy defaultOf; state = freshAin; «st_rev» = 0 };
+  ain = record { settings = ainBy defaultOf; state = freshAin; «st_rev» = 0; table = noTable };
   tot = record { settings = totBy defaultOf; state = freshTot; «st_rev» = 0 };
   ao = record { settings = aoBy defaultOf; state = freshAo; «st_rev» = 0 };
 }

@@ -69,7 +69,7 @@ pub record WriteLaw (d : Device) (block number a b : ℕ) (r : Answered) : Type 
 abbrev withStates : Device → AinState → TotState → AoState → Device
 withStates d x y z = record {
   «write_locking» = d .«write_locking»;
-  ain = record { settings = d .ain .settings; state = x; «st_rev» = d .ain .«st_rev» };
+  ain = record { settings = d .ain .settings; state = x; «st_rev» = d .ain .«st_rev»; table = d .ain .table };
   tot = record { settings = d .tot .settings; state = y; «st_rev» = d .tot .«st_rev» };
   ao = record { settings = d .ao .settings; state = z; «st_rev» = d .ao .«st_rev» };
 }
@@ -88,7 +88,7 @@ states-still d x y z =
     (λ block number t. refl)
     (λ block number t. refl)
     (refl also tt)
-    (refl also refl also refl also refl also refl also refl also refl also refl also refl also refl also refl also refl also tt)
+    (refl also refl also refl also refl also refl also refl also refl also refl also refl also refl also refl also refl also refl also tt)
     (refl also refl also refl also refl also refl also refl also tt)
     (refl also refl also refl also refl also refl also refl also refl also refl also tt)
 
@@ -144,7 +144,7 @@ stored-shown d a b =
     (λ block number t. absurd t)
     (λ block number t. absurd t)
     (refl also tt)
-    (refl also refl also refl also refl also refl also refl also refl also refl also refl also refl also refl also tt)
+    (refl also refl also refl also refl also refl also refl also refl also refl also refl also refl also refl also refl also tt)
     (refl also refl also refl also refl also refl also tt)
     (refl also refl also refl also refl also refl also refl also refl also tt)
 
@@ -319,6 +319,7 @@ module _ (d : Device) (block number a b : ℕ) where
             settings = ainSettings (d .ain .settings) number a b;
             state = cond q operated (d .ain .state);
             «st_rev» = revAfter (isStatic 1 number) (d .ain .«st_rev»);
+            table = d .ain .table;
           }) (d .ain) .state .alarms ≡ d .ain .state .alarms
       go true true = refl
       go true false = refl

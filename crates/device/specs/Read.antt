@@ -51,6 +51,7 @@ ainWords b number =
     (cond (eqb number 10) (given (b .state .out))
     (cond (eqb number 11) (ends (b .settings .«pv_scale»))
     (cond (eqb number 12) (ends (b .settings .«out_scale»))
+    (cond (eqb number 13) (code (b .settings .«lin_type»))
     (cond (eqb number 16) (float (b .settings .«pv_ftime»))
     (cond (eqb number 17) (code (b .settings .«fsafe_type»))
     (cond (eqb number 18) (float (b .settings .«fsafe_value»))
@@ -58,7 +59,7 @@ ainWords b number =
     (cond (eqb number 21) (float (b .settings .«hi_hi_lim»))
     (cond (eqb number 23) (float (b .settings .«hi_lim»))
     (cond (eqb number 25) (float (b .settings .«lo_lim»))
-    (cond (eqb number 27) (float (b .settings .«lo_lo_lim»)) (words 0 0)))))))))))))))
+    (cond (eqb number 27) (float (b .settings .«lo_lo_lim»)) (words 0 0))))))))))))))))
 
 unfoldable pub totWords : TotBlock → ℕ → Words
 totWords b number =

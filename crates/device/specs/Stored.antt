@@ -30,6 +30,7 @@ ainSettings s number a b = record {
   target = cond (eqb number 5) a (s .target);
   «pv_scale» = cond (eqb number 11) (scaleOf a b) (s .«pv_scale»);
   «out_scale» = cond (eqb number 12) (scaleOf a b) (s .«out_scale»);
+  «lin_type» = cond (eqb number 13) a (s .«lin_type»);
   «pv_ftime» = cond (eqb number 16) (floatOf a) (s .«pv_ftime»);
   «fsafe_type» = cond (eqb number 17) a (s .«fsafe_type»);
   «fsafe_value» = cond (eqb number 18) (floatOf a) (s .«fsafe_value»);
@@ -70,6 +71,7 @@ ainWritten block number a b = record {
   settings = ainSettings (block .settings) number a b;
   state = cond (eqb number 10) (operatedState (block .state) (pairOf a b)) (block .state);
   «st_rev» = revAfter (isStatic 1 number) (block .«st_rev»);
+  table = block .table;
 }
 
 unfoldable pub totWritten : TotBlock → ℕ → ℕ → ℕ → TotBlock

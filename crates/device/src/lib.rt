@@ -1,5 +1,5 @@
 // The device: the three function blocks and write protection on one value that C can hold, and the calls on it
-// (document 01, Calls on the device).
+// (document 01, Calls on the device; document 02, request 1).
 ghost use mathlib.Core.Path.{_≡_};
 ghost use Prim.Native.Nat.{_%_, _≤_};
 ghost use denote.Ref.{ptr};
@@ -8,9 +8,10 @@ ghost use Rattle.parameters.specs.Table.{defaultOf};
 ghost use Rattle.device.specs.Factory.{ainBy, totBy, aoBy, factoryDevice};
 ghost use Rattle.device.specs.Stored.{ainSettings, totSettings, aoSettings, revAfter, ainWritten, totWritten, aoWritten, storedIn};
 ghost use Rattle.device.specs.Read.{code, float, ends, given, alarmByte, ainWords, totWords, aoWords, wordsOf, readOf};
-ghost use Rattle.device.specs.Calls.{standingOf, writeOf, tickOf, telegramOf, warmStarted};
+ghost use Rattle.device.specs.Calls.{standingOf, writeOf, tickOf, telegramOf, tabledBy, loadOf, warmStarted};
 use ain::Alarms;
 use ao::Order;
+use linearisation::Table;
 use numbers::floats::bits_of;
 use numbers::floats::float_of;
 use parameters::Entry;
@@ -26,6 +27,7 @@ pub struct AinBlock {
     pub settings: ain::Settings,
     pub state: ain::State,
     pub st_rev: u16,
+    pub table: Table,
 }
 
 #[repr(C)]
@@ -81,6 +83,7 @@ fn default_ain() -> ain::Settings
         target: blocks::AUTO,
         pv_scale: scale,
         out_scale: scale,
+        lin_type: 0,
         pv_ftime: 0.0,
         fsafe_type: 1,
         fsafe_value: 0.0,
@@ -131,12 +134,14 @@ pub fn factory() -> Device
     let ain_state = ain::fresh();
     let tot_state = tot::fresh();
     let ao_state = ao::fresh();
+    let no_table = linearisation::none();
     Device {
         write_locking: 2457,
         ain: AinBlock {
             settings: ain_settings,
             state: ain_state,
             st_rev: 0,
+            table: no_table,
         },
         tot: TotBlock {
             settings: tot_settings,
@@ -164,6 +169,7 @@ fn ain_settings(s: ain::Settings, parameter: u8, a: u32, b: u32) -> ain::Setting
         5 => next.target = a,
         11 => next.pv_scale = scale,
         12 => next.out_scale = scale,
+        13 => next.lin_type = a,
         16 => next.pv_ftime = x,
         17 => next.fsafe_type = a,
         18 => next.fsafe_value = x,
@@ -243,16 +249,19 @@ fn ain_written(block: AinBlock, parameter: u8, a: u32, b: u32) -> AinBlock
             status: status,
         },
     );
+    let table = block.table;
     match parameter {
         10 => AinBlock {
             settings: settings,
             state: operated,
             st_rev: rev,
+            table: table,
         },
         _ => AinBlock {
             settings: settings,
             state: old,
             st_rev: rev,
+            table: table,
         },
     }
 }
@@ -335,11 +344,13 @@ fn stored(d: Device, block: u8, parameter: u8, a: u32, b: u32) -> Device
 fn standing(d: Device) -> Standing
     ensures { λ r. ⌜ r ≡ standingOf d ⌝ }
 {
+    let table = linearisation::is_there(d.ain.table);
     Standing {
         lock: d.write_locking,
         ain: d.ain.settings.target,
         tot: d.tot.settings.target,
         ao: d.ao.settings.target,
+        table: table,
     }
 }
 
@@ -432,6 +443,7 @@ fn ain_words(b: AinBlock, parameter: u8) -> Words
         10 => pair_words(b.state.out),
         11 => scale_words(b.settings.pv_scale),
         12 => scale_words(b.settings.out_scale),
+        13 => code_words(b.settings.lin_type),
         16 => float_words(b.settings.pv_ftime),
         17 => code_words(b.settings.fsafe_type),
         18 => float_words(b.settings.fsafe_value),
@@ -503,12 +515,19 @@ pub fn read(d: Device, block: u8, parameter: u8) -> Reading
     }
 }
 
-// ---- tick, telegram, warm start
+// ---- tick, telegram, load, warm start
 
 pub fn tick(d: Device, fault: bool, ain: Pair, tot: Pair) -> Ticked
     ensures { λ r. ⌜ r ≡ tickOf d fault ain tot ⌝ }
 {
-    let ain_state = ain::tick(d.ain.settings, d.ain.state, fault, ain.bits, ain.status);
+    let ain_state = ain::tick(
+        d.ain.settings,
+        d.ain.table,
+        d.ain.state,
+        fault,
+        ain.bits,
+        ain.status,
+    );
     let tot_state = tot::tick(d.tot.settings, d.tot.state, fault, tot.bits, tot.status);
     let ao_ticked = ao::tick(d.ao.settings, d.ao.state, fault);
     let ao_state = ao_ticked.state;
@@ -542,6 +561,52 @@ pub fn telegram(d: Device, input: u8, bytes: &[u8]) -> Answered
     Answered {
         device: next,
         answer: answer,
+    }
+}
+
+// AIN with another table: one static write more.
+fn tabled(block: AinBlock, table: Table) -> AinBlock
+    ensures { λ r. ⌜ r ≡ tabledBy block table ⌝ }
+{
+    let rev = rev_after(true, block.st_rev);
+    let settings = block.settings;
+    let state = block.state;
+    AinBlock {
+        settings: settings,
+        state: state,
+        st_rev: rev,
+        table: table,
+    }
+}
+
+// Loads a linearisation table for AIN, eight bytes to a pair.
+pub fn load(d: Device, bytes: &[u8]) -> Answered
+    ensures { λ r. ⌜ r ≡ loadOf d (now (bytes .entry)) ⌝ }
+{
+    let locked = d.write_locking == 0;
+    if locked {
+        return Answered {
+            device: d,
+            answer: Answer::Refused(Refusal::Locked),
+        };
+    }
+    let loaded = linearisation::table_of(bytes);
+    let answer = loaded.answer;
+    let table = loaded.table;
+    match answer {
+        Answer::Accepted => {
+            let ain = tabled(d.ain, table);
+            let mut next = d;
+            next.ain = ain;
+            Answered {
+                device: next,
+                answer: Answer::Accepted,
+            }
+        }
+        Answer::Refused(refusal) => Answered {
+            device: d,
+            answer: Answer::Refused(refusal),
+        },
     }
 }
 

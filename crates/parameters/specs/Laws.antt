@@ -25,7 +25,7 @@ use Rattle.parameters.specs.declared.Entry.the-variants.{NoBlock, NoPara
 use Rattle.parameters.specs.declared.Standing.{Standing}
 use Rattle.parameters.specs.Table.{Row, words, physical, ain, tot, ao, entryIn, entryOf}
 use Rattle.parameters.specs.Words.{allowsOf}
-use Rattle.parameters.specs.Refused.{readOnly, output, targetIn, ground, groundBy}
+use Rattle.parameters.specs.Refused.{readOnly, output, targetIn, lacksTable, ground, groundBy}
 
 -- ---- blocks and rows
 
@@ -112,20 +112,22 @@ pub accepted-takes : (s : Standing) (block number a b : ℕ) → ground s block 
 unfolding ground
 accepted-takes s block number a b e = by (entryOf block number) e
   where
-    go : (r l w m : Bool)
-        → cond r (Refused ReadOnly) (cond l (Refused Locked) (cond (not w) (Refused WordsNotAllowed) (cond m (Refused NotMan) Accepted))) ≡ Accepted
+    go : (r l w t m : Bool)
+        → cond r (Refused ReadOnly) (cond l (Refused Locked) (cond (not (w && not t)) (Refused WordsNotAllowed) (cond m (Refused NotMan) Accepted))) ≡ Accepted
         → T (not r && w)
-    go false false true false e = tt
-    go true l w m e = absurd (refused-other _ e)
-    go false true w m e = absurd (refused-other _ e)
-    go false false false m e = absurd (refused-other _ e)
-    go false false true true e = absurd (refused-other _ e)
+    go false false true false false e = tt
+    go true l w t m e = absurd (refused-other _ e)
+    go false true w t m e = absurd (refused-other _ e)
+    go false false false t m e = absurd (refused-other _ e)
+    go false false true true m e = absurd (refused-other _ e)
+    go false false true false true e = absurd (refused-other _ e)
 
-    by : (x : Entry) → groundBy s block a b x ≡ Accepted → T (takes x a b)
+    by : (x : Entry) → groundBy s block number a b x ≡ Accepted → T (takes x a b)
     by NoBlock e = absurd (refused-other _ e)
     by NoParameter e = absurd (refused-other _ e)
     by (Parameter class allowed) e =
-        go (readOnly class) (eqb (s .lock) 0 && not (eqb block 0)) (allowsOf allowed a b) (output allowed && not (eqb (targetIn s block) man)) e
+        go (readOnly class) (eqb (s .lock) 0 && not (eqb block 0)) (allowsOf allowed a b) (lacksTable s block number a)
+        (output allowed && not (eqb (targetIn s block) man)) e
 
 -- ---- allowed words read back
 

@@ -50,16 +50,20 @@ storedEntry (Parameter R allowed) = false
 unfoldable pub targetIn : Standing → ℕ → ℕ
 targetIn s block = cond (eqb block 1) (s .ain) (cond (eqb block 2) (s .tot) (s .ao))
 
+-- Q1.10: LIN_TYPE 1 is written and no table is loaded
+abbrev pub lacksTable : Standing → ℕ → ℕ → ℕ → Bool
+lacksTable s block number a = eqb block 1 && eqb number 13 && eqb a 1 && not (s .table)
+
 -- F2 to F8: the grounds, the first that is met: no such block (1), none of its parameters (2), a read-only one (3), WRITE_LOCKING is 0 and another is
--- written (4; block 0 has WRITE_LOCKING alone, and its only other value is 2457), words not allowed (5), an output, its target being other than Man (6)
-abbrev pub groundBy : Standing → ℕ → ℕ → ℕ → Entry → Answer
-groundBy s block a b NoBlock = Refused (Refusal.ground 1)
-groundBy s block a b NoParameter = Refused (Refusal.ground 2)
-groundBy s block a b (Parameter class allowed) =
+-- written (4; block 0 has WRITE_LOCKING alone, and its only other value is 2457), words not allowed, or Q1.10 (5), an output, its target being other than Man (6)
+abbrev pub groundBy : Standing → ℕ → ℕ → ℕ → ℕ → Entry → Answer
+groundBy s block number a b NoBlock = Refused (Refusal.ground 1)
+groundBy s block number a b NoParameter = Refused (Refusal.ground 2)
+groundBy s block number a b (Parameter class allowed) =
     cond (readOnly class) (Refused (Refusal.ground 3))
     (cond (eqb (s .lock) 0 && not (eqb block 0)) (Refused (Refusal.ground 4))
-    (cond (not (allowsOf allowed a b)) (Refused (Refusal.ground 5))
+    (cond (not (allowsOf allowed a b && not (lacksTable s block number a))) (Refused (Refusal.ground 5))
     (cond (output allowed && not (eqb (targetIn s block) man)) (Refused (Refusal.ground 6)) Accepted)))
 
 unfoldable pub ground : Standing → ℕ → ℕ → ℕ → ℕ → Answer
-ground s block number a b = groundBy s block a b (entryOf block number)
+ground s block number a b = groundBy s block number a b (entryOf block number)

@@ -41,7 +41,7 @@ physical = row 18 N Lock 2457 0 ∷ []
 
 -- P10: ST_REV (1), TARGET_MODE (5), at first Auto, and the actual mode (6), as in TOT and AO; of the three only AO's target may be RCas
 -- P11a to P11i: the alarms (7), OUT (10), both scales (11, 12), the filter time in seconds (16), type and value of the fail-safe (17, 18),
--- the hysteresis (19), the high limits (21, 23) and the low ones (25, 27), at first infinite
+-- the hysteresis (19), the high limits (21, 23) and the low ones (25, 27), at first infinite. Q1.3: LIN_TYPE (13)
 unfoldable pub ain : List Row
 ain =
     row 1 R Nothing 0 0
@@ -51,6 +51,7 @@ ain =
     ∷ row 10 D Output 0 0x1f
     ∷ row 11 S Ends 0 0x42c8_0000
     ∷ row 12 S Ends 0 0x42c8_0000
+    ∷ row 13 S (UpTo 1) 0 0
     ∷ row 16 S (Within zero (ofInt binary32 (pos 3600))) 0 0
     ∷ row 17 S (UpTo 2) 1 0
     ∷ row 18 S Finite 0 0

@@ -3,7 +3,7 @@
 ghost use mathlib.Core.Path.{_≡_};
 ghost use Rattle.parameters.specs.Table.{entryOf, entryIn, physical, ain, tot, ao, isStatic};
 ghost use Rattle.parameters.specs.Words.{allowsOf};
-ghost use Rattle.parameters.specs.Refused.{readOnly, output, targetIn, ground};
+ghost use Rattle.parameters.specs.Refused.{readOnly, output, targetIn, lacksTable, ground};
 use numbers::floats::float_of;
 use numbers::floats::is_finite;
 use numbers::floats::is_finite_or;
@@ -59,12 +59,13 @@ pub enum Entry {
     Parameter(Class, Allowed),
 }
 
-// What stands when a write comes: WRITE_LOCKING and the blocks' targets.
+// What stands when a write comes: WRITE_LOCKING, the blocks' targets, and whether a linearisation table is loaded.
 pub struct Standing {
     pub lock: u32,
     pub ain: u32,
     pub tot: u32,
     pub ao: u32,
+    pub table: bool,
 }
 
 fn physical_entry(parameter: u8) -> Entry
@@ -87,6 +88,7 @@ fn ain_entry(parameter: u8) -> Entry
         10 => Entry::Parameter(Class::D, Allowed::Output),
         11 => Entry::Parameter(Class::S, Allowed::Ends),
         12 => Entry::Parameter(Class::S, Allowed::Ends),
+        13 => Entry::Parameter(Class::S, Allowed::UpTo(1)),
         16 => Entry::Parameter(Class::S, Allowed::Within(0.0, 3600.0)),
         17 => Entry::Parameter(Class::S, Allowed::UpTo(2)),
         18 => Entry::Parameter(Class::S, Allowed::Finite),
@@ -236,6 +238,13 @@ fn target_in(s: Standing, block: u8) -> u32
     s.ao
 }
 
+// Whether the write asks for a table, and none is there.
+fn lacks_table(s: Standing, block: u8, parameter: u8, a: u32) -> bool
+    ensures { λ r. ⌜ r ≡ lacksTable s block parameter a ⌝ }
+{
+    (block == 1) & (parameter == 13) & (a == 1) & !s.table
+}
+
 // What a write is answered.
 pub fn answer_to(s: Standing, block: u8, parameter: u8, a: u32, b: u32) -> Answer
     ensures { λ r. ⌜ r ≡ ground s block parameter a b ⌝ }
@@ -247,7 +256,8 @@ pub fn answer_to(s: Standing, block: u8, parameter: u8, a: u32, b: u32) -> Answe
         Entry::Parameter(class, allowed) => {
             let fixed = is_read_only(class);
             let locked = (s.lock == 0) & !(block == 0);
-            let allowed_words = allows(allowed, a, b);
+            let lacking = lacks_table(s, block, parameter, a);
+            let allowed_words = allows(allowed, a, b) & !lacking;
             let away = is_output(allowed) & !(target_in(s, block) == blocks::MAN);
             if fixed {
                 return Answer::Refused(Refusal::ReadOnly);

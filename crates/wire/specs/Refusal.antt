@@ -4,7 +4,7 @@ use mathlib.Core.Path.{_≡_, refl}
 use mathlib.Core.Bool.{cond}
 use lib.Dec.{eqb}
 use Rattle.wire.specs.declared.Refusal.{Refusal}
-use Rattle.wire.specs.declared.Refusal.the-variants.{NoSuchBlock, NoSuchParameter, ReadOnly, Locked, WordsNotAllowed, NotMan, WrongLength, NoSuchInput}
+use Rattle.wire.specs.declared.Refusal.the-variants.{NoSuchBlock, NoSuchParameter, ReadOnly, Locked, WordsNotAllowed, NotMan, WrongLength, NoSuchInput, NotWholePairs, NotRising}
 use Rattle.wire.specs.declared.Answer.{Answer}
 use Rattle.wire.specs.declared.Answer.the-variants.{Accepted, Refused}
 
@@ -25,8 +25,12 @@ refusalNumber NotMan = 6
 refusalNumber WrongLength = 7
 -- F10: a telegram on another input than SP and RCAS_IN
 refusalNumber NoSuchInput = 8
+-- Q1.11: a table of other than 2 to 21 whole pairs
+refusalNumber NotWholePairs = 9
+-- Q1.11: a table whose x do not rise, or with a number that isn't finite
+refusalNumber NotRising = 10
 
--- the ground of refusal with a number, by which the promises name it; a number that the table lacks counts as 8
+-- the ground of refusal with a number, by which the promises name it; a number that the table lacks counts as 10
 abbrev pub ground : ℕ → Refusal
 ground n =
     cond (eqb n 1) NoSuchBlock
@@ -35,7 +39,9 @@ ground n =
     (cond (eqb n 4) Locked
     (cond (eqb n 5) WordsNotAllowed
     (cond (eqb n 6) NotMan
-    (cond (eqb n 7) WrongLength NoSuchInput))))))
+    (cond (eqb n 7) WrongLength
+    (cond (eqb n 8) NoSuchInput
+    (cond (eqb n 9) NotWholePairs NotRising))))))))
 
 -- the two agree
 pub ground-number : (r : Refusal) → ground (refusalNumber r) ≡ r
@@ -47,6 +53,8 @@ ground-number WordsNotAllowed = refl
 ground-number NotMan = refl
 ground-number WrongLength = refl
 ground-number NoSuchInput = refl
+ground-number NotWholePairs = refl
+ground-number NotRising = refl
 
 -- F1: a refusal is answered by its number; for an accepted call the paper leaves it free: 0
 abbrev pub answerNumber : Answer → ℕ

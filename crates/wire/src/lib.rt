@@ -26,6 +26,8 @@ pub enum Refusal {
     NotMan,
     WrongLength,
     NoSuchInput,
+    NotWholePairs,
+    NotRising,
 }
 
 // What a call answers where it gives no value.
@@ -53,6 +55,8 @@ pub fn refusal_number(r: Refusal) -> u8
         Refusal::NotMan => 6,
         Refusal::WrongLength => 7,
         Refusal::NoSuchInput => 8,
+        Refusal::NotWholePairs => 9,
+        Refusal::NotRising => 10,
     }
 }
 

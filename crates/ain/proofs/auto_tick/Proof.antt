@@ -10,16 +10,17 @@ enum-told c = search needs
 
 returns : tie.Need-returns
 unfolding autoTick inputOf scaledValue calculated
-returns c = rw (c .usable-tick .ensures, ← c .before .before .before .before .before .before .before .before .before .float-of .ensures, ← c .before .before .before .before .before .before .before .before .scaled .ensures, ← c .before .before .before .before .before .before .before .filter .ensures, ← c .before .before .before .before .before .before .is-finite .ensures, ← c .before .before .before .before .before .is-finite2 .ensures, ← c .before .before .before .before .is-finite3 .ensures, ← c .before .before .before .input-status .ensures, c .before .enum-told .given .1, c .before .before .before .before .before .before .before .filter .ensures, c .before .before .before .before .before .before .before .before .scaled .ensures, c .before .before .before .before .before .before .before .before .before .float-of .ensures)
+returns c = rw (c .usable-tick .ensures, ← c .before .before .before .before .before .before .before .before .before .before .float-of .ensures, ← c .before .before .before .before .before .before .before .before .before .measured .ensures, ← c .before .before .before .before .before .before .before .before .scaled .ensures, ← c .before .before .before .before .before .before .before .filter .ensures, ← c .before .before .before .before .before .before .is-finite .ensures, ← c .before .before .before .before .before .is-finite2 .ensures, ← c .before .before .before .before .is-finite3 .ensures, ← c .before .before .before .input-status .ensures, c .before .enum-told .given .1, c .before .before .before .before .before .before .before .filter .ensures, c .before .before .before .before .before .before .before .before .scaled .ensures, c .before .before .before .before .before .before .before .before .before .measured .ensures, c .before .before .before .before .before .before .before .before .before .before .float-of .ensures)
 
 returns-2 : tie.Need-returns-2
 unfolding autoTick inputOf scaledValue calculated
-returns-2 c = rw (c .unusable-tick .ensures, ← c .before .before .before .before .before .before .before .before .before .before .float-of .ensures, ← c .before .before .before .before .before .before .before .before .before .scaled .ensures, ← c .before .before .before .before .before .before .before .before .filter .ensures, ← c .before .before .before .before .before .before .before .is-finite .ensures, ← c .before .before .before .before .before .before .is-finite2 .ensures, ← c .before .before .before .before .before .is-finite3 .ensures, ← c .before .before .before .before .input-status .ensures, c .before .before .input .given .1, c .before .before .before .before .before .before .before .before .before .scaled .ensures, c .before .before .before .before .before .before .before .before .before .before .float-of .ensures)
+returns-2 c = rw (c .unusable-tick .ensures, ← c .before .before .before .before .before .before .before .before .before .before .before .float-of .ensures, ← c .before .before .before .before .before .before .before .before .before .before .measured .ensures, ← c .before .before .before .before .before .before .before .before .before .scaled .ensures, ← c .before .before .before .before .before .before .before .before .filter .ensures, ← c .before .before .before .before .before .before .before .is-finite .ensures, ← c .before .before .before .before .before .before .is-finite2 .ensures, ← c .before .before .before .before .before .is-finite3 .ensures, ← c .before .before .before .before .input-status .ensures, c .before .before .input .given .1, c .before .before .before .before .before .before .before .before .before .scaled .ensures, c .before .before .before .before .before .before .before .before .before .before .measured .ensures, c .before .before .before .before .before .before .before .before .before .before .before .float-of .ensures)
 
 pub auto-tick-spec : {M : Type 1} → statement M
 auto-tick-spec =
     tie.close
     (tie.spec
+    (λ c κs. search needs)
     (λ c κs. search needs)
     (λ c κs. search needs)
     (λ c κs. search needs)

@@ -20,15 +20,15 @@ returns-3 c = rw (c .before .float-of2 .ensures, c .before .before .float-of .en
 
 returns-4 : tie.Need-returns-4
 unfolding ainSettings
-returns-4 c = rw (c .before .before .float-of .ensures, c .match .keys4)
+returns-4 c = rw (c .match .keys4)
 
 returns-5 : tie.Need-returns-5
 unfolding ainSettings
-returns-5 c = rw (c .match .keys5)
+returns-5 c = rw (c .before .before .float-of .ensures, c .match .keys5)
 
 returns-6 : tie.Need-returns-6
 unfolding ainSettings
-returns-6 c = rw (c .before .before .float-of .ensures, c .match .keys6)
+returns-6 c = rw (c .match .keys6)
 
 returns-7 : tie.Need-returns-7
 unfolding ainSettings
@@ -52,7 +52,11 @@ returns-11 c = rw (c .before .before .float-of .ensures, c .match .keys11)
 
 returns-12 : tie.Need-returns-12
 unfolding ainSettings
-returns-12 c = rw (ne-eqb _ 5 (c .match .rest .0 .0 .0 .0 .0 .0 .0 .0 .0 .0 .1), ne-eqb _ 11 (c .match .rest .0 .0 .0 .0 .0 .0 .0 .0 .0 .1), ne-eqb _ 12 (c .match .rest .0 .0 .0 .0 .0 .0 .0 .0 .1), ne-eqb _ 16 (c .match .rest .0 .0 .0 .0 .0 .0 .0 .1), ne-eqb _ 17 (c .match .rest .0 .0 .0 .0 .0 .0 .1), ne-eqb _ 18 (c .match .rest .0 .0 .0 .0 .0 .1), ne-eqb _ 19 (c .match .rest .0 .0 .0 .0 .1), ne-eqb _ 21 (c .match .rest .0 .0 .0 .1), ne-eqb _ 23 (c .match .rest .0 .0 .1), ne-eqb _ 25 (c .match .rest .0 .1), ne-eqb _ 27 (c .match .rest .1))
+returns-12 c = rw (c .before .before .float-of .ensures, c .match .keys12)
+
+returns-13 : tie.Need-returns-13
+unfolding ainSettings
+returns-13 c = rw (ne-eqb _ 5 (c .match .rest .0 .0 .0 .0 .0 .0 .0 .0 .0 .0 .0 .1), ne-eqb _ 11 (c .match .rest .0 .0 .0 .0 .0 .0 .0 .0 .0 .0 .1), ne-eqb _ 12 (c .match .rest .0 .0 .0 .0 .0 .0 .0 .0 .0 .1), ne-eqb _ 13 (c .match .rest .0 .0 .0 .0 .0 .0 .0 .0 .1), ne-eqb _ 16 (c .match .rest .0 .0 .0 .0 .0 .0 .0 .1), ne-eqb _ 17 (c .match .rest .0 .0 .0 .0 .0 .0 .1), ne-eqb _ 18 (c .match .rest .0 .0 .0 .0 .0 .1), ne-eqb _ 19 (c .match .rest .0 .0 .0 .0 .1), ne-eqb _ 21 (c .match .rest .0 .0 .0 .1), ne-eqb _ 23 (c .match .rest .0 .0 .1), ne-eqb _ 25 (c .match .rest .0 .1), ne-eqb _ 27 (c .match .rest .1))
 
 pub ain-settings-spec : {M : Type 1} → statement M
 ain-settings-spec =
@@ -71,4 +75,5 @@ ain-settings-spec =
     returns-9
     returns-10
     returns-11
-    returns-12)
+    returns-12
+    returns-13)

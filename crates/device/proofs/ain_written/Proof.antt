@@ -8,11 +8,11 @@ use Rattle.device.proofs.ain_written.Tie as tie
 
 returns : tie.Need-returns
 unfolding ainWritten
-returns c = rw (c .before .operated .ensures, c .before .before .before .status-of .ensures, c .before .before .before .before .ain-settings .ensures, c .before .before .before .before .before .rev-after .ensures, c .before .before .before .before .before .before .counts .ensures, c .match .keys1)
+returns c = rw (c .before .before .operated .ensures, c .before .before .before .before .status-of .ensures, c .before .before .before .before .before .ain-settings .ensures, c .before .before .before .before .before .before .rev-after .ensures, c .before .before .before .before .before .before .before .counts .ensures, c .match .keys1)
 
 returns-2 : tie.Need-returns-2
 unfolding ainWritten
-returns-2 c = rw (c .before .before .before .before .ain-settings .ensures, c .before .before .before .before .before .rev-after .ensures, c .before .before .before .before .before .before .counts .ensures, ne-eqb _ 10 (c .match .rest .1))
+returns-2 c = rw (c .before .before .before .before .before .ain-settings .ensures, c .before .before .before .before .before .before .rev-after .ensures, c .before .before .before .before .before .before .before .counts .ensures, ne-eqb _ 10 (c .match .rest .1))
 
 pub ain-written-spec : {M : Type 1} → statement M
 ain-written-spec =

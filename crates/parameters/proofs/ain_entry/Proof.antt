@@ -68,7 +68,11 @@ returns-15 c = rw (c .match .keys15)
 
 returns-16 : tie.Need-returns-16
 unfolding ain entryIn ofBits ofInt
-returns-16 c = rw (ne-eqb _ 1 (c .match .rest .0 .0 .0 .0 .0 .0 .0 .0 .0 .0 .0 .0 .0 .0 .1), ne-eqb _ 5 (c .match .rest .0 .0 .0 .0 .0 .0 .0 .0 .0 .0 .0 .0 .0 .1), ne-eqb _ 6 (c .match .rest .0 .0 .0 .0 .0 .0 .0 .0 .0 .0 .0 .0 .1), ne-eqb _ 7 (c .match .rest .0 .0 .0 .0 .0 .0 .0 .0 .0 .0 .0 .1), ne-eqb _ 10 (c .match .rest .0 .0 .0 .0 .0 .0 .0 .0 .0 .0 .1), ne-eqb _ 11 (c .match .rest .0 .0 .0 .0 .0 .0 .0 .0 .0 .1), ne-eqb _ 12 (c .match .rest .0 .0 .0 .0 .0 .0 .0 .0 .1), ne-eqb _ 16 (c .match .rest .0 .0 .0 .0 .0 .0 .0 .1), ne-eqb _ 17 (c .match .rest .0 .0 .0 .0 .0 .0 .1), ne-eqb _ 18 (c .match .rest .0 .0 .0 .0 .0 .1), ne-eqb _ 19 (c .match .rest .0 .0 .0 .0 .1), ne-eqb _ 21 (c .match .rest .0 .0 .0 .1), ne-eqb _ 23 (c .match .rest .0 .0 .1), ne-eqb _ 25 (c .match .rest .0 .1), ne-eqb _ 27 (c .match .rest .1))
+returns-16 c = rw (c .match .keys16)
+
+returns-17 : tie.Need-returns-17
+unfolding ain entryIn ofBits ofInt
+returns-17 c = rw (ne-eqb _ 1 (c .match .rest .0 .0 .0 .0 .0 .0 .0 .0 .0 .0 .0 .0 .0 .0 .0 .1), ne-eqb _ 5 (c .match .rest .0 .0 .0 .0 .0 .0 .0 .0 .0 .0 .0 .0 .0 .0 .1), ne-eqb _ 6 (c .match .rest .0 .0 .0 .0 .0 .0 .0 .0 .0 .0 .0 .0 .0 .1), ne-eqb _ 7 (c .match .rest .0 .0 .0 .0 .0 .0 .0 .0 .0 .0 .0 .0 .1), ne-eqb _ 10 (c .match .rest .0 .0 .0 .0 .0 .0 .0 .0 .0 .0 .0 .1), ne-eqb _ 11 (c .match .rest .0 .0 .0 .0 .0 .0 .0 .0 .0 .0 .1), ne-eqb _ 12 (c .match .rest .0 .0 .0 .0 .0 .0 .0 .0 .0 .1), ne-eqb _ 13 (c .match .rest .0 .0 .0 .0 .0 .0 .0 .0 .1), ne-eqb _ 16 (c .match .rest .0 .0 .0 .0 .0 .0 .0 .1), ne-eqb _ 17 (c .match .rest .0 .0 .0 .0 .0 .0 .1), ne-eqb _ 18 (c .match .rest .0 .0 .0 .0 .0 .1), ne-eqb _ 19 (c .match .rest .0 .0 .0 .0 .1), ne-eqb _ 21 (c .match .rest .0 .0 .0 .1), ne-eqb _ 23 (c .match .rest .0 .0 .1), ne-eqb _ 25 (c .match .rest .0 .1), ne-eqb _ 27 (c .match .rest .1))
 
 pub ain-entry-spec : {M : Type 1} → statement M
 ain-entry-spec =
@@ -89,4 +93,5 @@ ain-entry-spec =
     returns-13
     returns-14
     returns-15
-    returns-16)
+    returns-16
+    returns-17)

@@ -10,19 +10,19 @@ enum-told c = search needs
 
 returns : tie.Need-returns
 unfolding ground
-returns c = rw (← c .before .before .before .before .before .before .before .before .before .entry-of .ensures, c .before .before .before .before .before .before .before .entry .given .1, ← c .before .before .before .before .before .is-read-only .ensures, ← c .before .before .before .allows .ensures, ← c .before .before .is-output .ensures, ← c .before .target-in .ensures, c .if1 .taken)
+returns c = rw (← c .before .before .before .before .before .before .before .before .before .before .entry-of .ensures, c .before .before .before .before .before .before .before .before .entry .given .1, ← c .before .before .before .before .before .before .is-read-only .ensures, ← c .before .before .before .before .lacks-table .ensures, ← c .before .before .before .allows .ensures, ← c .before .before .is-output .ensures, ← c .before .target-in .ensures, c .if1 .taken)
 
 returns-2 : tie.Need-returns-2
 unfolding ground
-returns-2 c = rw (← c .before .before .before .before .before .before .before .before .before .before .entry-of .ensures, c .before .before .before .before .before .before .before .before .entry .given .1, ← c .before .before .before .before .before .before .is-read-only .ensures, ← c .before .before .before .before .allows .ensures, ← c .before .before .before .is-output .ensures, ← c .before .before .target-in .ensures, c .before .if1 .left, c .if2 .taken)
+returns-2 c = rw (← c .before .before .before .before .before .before .before .before .before .before .before .entry-of .ensures, c .before .before .before .before .before .before .before .before .before .entry .given .1, ← c .before .before .before .before .before .before .before .is-read-only .ensures, ← c .before .before .before .before .before .lacks-table .ensures, ← c .before .before .before .before .allows .ensures, ← c .before .before .before .is-output .ensures, ← c .before .before .target-in .ensures, c .before .if1 .left, c .if2 .taken)
 
 returns-3 : tie.Need-returns-3
 unfolding ground
-returns-3 c = rw (← c .before .before .before .before .before .before .before .before .before .before .before .entry-of .ensures, c .before .before .before .before .before .before .before .before .before .entry .given .1, ← c .before .before .before .before .before .before .before .is-read-only .ensures, ← c .before .before .before .before .before .allows .ensures, ← c .before .before .before .before .is-output .ensures, ← c .before .before .before .target-in .ensures, c .before .before .if1 .left, c .before .if2 .left, c .if3 .taken)
+returns-3 c = rw (← c .before .before .before .before .before .before .before .before .before .before .before .before .entry-of .ensures, c .before .before .before .before .before .before .before .before .before .before .entry .given .1, ← c .before .before .before .before .before .before .before .before .is-read-only .ensures, ← c .before .before .before .before .before .before .lacks-table .ensures, ← c .before .before .before .before .before .allows .ensures, ← c .before .before .before .before .is-output .ensures, ← c .before .before .before .target-in .ensures, c .before .before .if1 .left, c .before .if2 .left, c .if3 .taken)
 
 returns-4 : tie.Need-returns-4
 unfolding ground
-returns-4 c = rw (← c .before .before .before .before .before .before .before .before .before .before .before .before .entry-of .ensures, c .before .before .before .before .before .before .before .before .before .before .entry .given .1, ← c .before .before .before .before .before .before .before .before .is-read-only .ensures, ← c .before .before .before .before .before .before .allows .ensures, ← c .before .before .before .before .before .is-output .ensures, ← c .before .before .before .before .target-in .ensures, c .before .before .before .if1 .left, c .before .before .if2 .left, c .before .if3 .left, c .if4 .taken)
+returns-4 c = rw (← c .before .before .before .before .before .before .before .before .before .before .before .before .before .entry-of .ensures, c .before .before .before .before .before .before .before .before .before .before .before .entry .given .1, ← c .before .before .before .before .before .before .before .before .before .is-read-only .ensures, ← c .before .before .before .before .before .before .before .lacks-table .ensures, ← c .before .before .before .before .before .before .allows .ensures, ← c .before .before .before .before .before .is-output .ensures, ← c .before .before .before .before .target-in .ensures, c .before .before .before .if1 .left, c .before .before .if2 .left, c .before .if3 .left, c .if4 .taken)
 
 returns-5 : tie.Need-returns-5
 unfolding ground
@@ -34,7 +34,7 @@ returns-6 c = rw (← c .before .before .entry-of .ensures, c .enum-told2 .given
 
 returns-7 : tie.Need-returns-7
 unfolding ground
-returns-7 c = rw (← c .before .before .before .before .before .before .before .before .before .before .before .before .entry-of .ensures, c .before .before .before .before .before .before .before .before .before .before .entry .given .1, ← c .before .before .before .before .before .before .before .before .is-read-only .ensures, ← c .before .before .before .before .before .before .allows .ensures, ← c .before .before .before .before .before .is-output .ensures, ← c .before .before .before .before .target-in .ensures, c .before .before .before .if1 .left, c .before .before .if2 .left, c .before .if3 .left, c .if4 .left)
+returns-7 c = rw (← c .before .before .before .before .before .before .before .before .before .before .before .before .before .entry-of .ensures, c .before .before .before .before .before .before .before .before .before .before .before .entry .given .1, ← c .before .before .before .before .before .before .before .before .before .is-read-only .ensures, ← c .before .before .before .before .before .before .before .lacks-table .ensures, ← c .before .before .before .before .before .before .allows .ensures, ← c .before .before .before .before .before .is-output .ensures, ← c .before .before .before .before .target-in .ensures, c .before .before .before .if1 .left, c .before .before .if2 .left, c .before .if3 .left, c .if4 .left)
 
 pub answer-to-spec : {M : Type 1} → statement M
 answer-to-spec =
@@ -44,6 +44,7 @@ answer-to-spec =
     enum-told
     (λ c. search needs)
     (λ c. search needs)
+    (λ c κs. search needs)
     (λ c κs. search needs)
     (λ c κs. search needs)
     (λ c κs. search needs)
