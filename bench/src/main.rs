@@ -1,7 +1,8 @@
 //! What the calls cost. `bench archive|model TIMES` plays histories TIMES times over on that head and prints the number of
-//! ticks in them and the time of one in nanoseconds; the calls between the ticks are not measured. `bench calls` prints for
-//! each function of the archive its name, how often it was called and its deepest stack in bytes, and `bench size` the
-//! size of a device, the archive's and the model's.
+//! ticks in them and the time of one in nanoseconds; the calls between the ticks are not measured. AIN has LIN_TYPE 0 in
+//! them; with `table` after TIMES it has LIN_TYPE 1, by a table of 21 pairs. `bench calls` prints for each function of the
+//! archive its name, how often it was called and its deepest stack in bytes, and `bench size` the size of a device, the
+//! archive's and the model's.
 
 use std::arch::asm;
 use std::hint::black_box;
@@ -12,6 +13,7 @@ use comparison::archive::{Archive, Device, Pair, PACKED_BYTES};
 use comparison::calls::{Call, Head};
 use comparison::histories::histories;
 use comparison::model::Model;
+use comparison::random::Random;
 
 /// A head whose ticks are measured, each in its own form.
 trait Measured: Head {
@@ -36,6 +38,43 @@ impl Measured for Model {
 #[inline(never)]
 fn tick_of<H: Measured>(head: &mut H, fault: bool, ain: (u32, u8), tot: (u32, u8)) {
     head.measured_tick(fault, Pair { bits: ain.0, status: ain.1 }, Pair { bits: tot.0, status: tot.1 });
+}
+
+/// Pairs of the table, the most that it may have, and its last x.
+const PAIRS: u8 = 21;
+const LAST_X: f32 = 100.0;
+
+/// A table like a weir's: discharge grows with the stage to the power of 3/2.
+fn table() -> Call {
+    let part = |pair: u8| f32::from(pair) / f32::from(PAIRS - 1);
+    let pairs = (0..PAIRS).map(|pair| [LAST_X * part(pair), LAST_X * part(pair).powf(1.5)]);
+    Call::Load(pairs.flatten().flat_map(f32::to_be_bytes).collect())
+}
+
+/// A history with LIN_TYPE 0 in all its ticks: without its loads and its writes of LIN_TYPE.
+fn without_table(history: &[Call]) -> Vec<Call> {
+    history.iter().filter(|call| !matches!(call, Call::Load(_) | Call::Write(1, 13, ..))).cloned().collect()
+}
+
+/// The same with LIN_TYPE 1 in all its ticks: a table is loaded at the beginning and after each factory call, and AIN's
+/// inputs are spread over it.
+fn with_table(history: &[Call], random: &mut Random) -> Vec<Call> {
+    let opening = [table(), Call::Write(1, 13, 1, 0)];
+    let mut calls = opening.to_vec();
+    for call in without_table(history) {
+        match call {
+            Call::Tick { fault, ain: (_, status), tot } => {
+                let x = random.unit() as f32 * LAST_X;
+                calls.push(Call::Tick { fault, ain: (x.to_bits(), status), tot });
+            }
+            Call::Factory => {
+                calls.push(call);
+                calls.extend(opening.clone());
+            }
+            _ => calls.push(call),
+        }
+    }
+    calls
 }
 
 /// Plays the histories some times over; gives the number of ticks, and their time in the quickest round, less what
@@ -120,9 +159,9 @@ struct Cost {
 /// The costs of the archive's functions over the histories. Before each call the stack is painted, and after it the lowest
 /// word that changed is looked for: what lies between it and the caller is the call's, its return address included. A
 /// device is also packed and unpacked now and then.
-fn costs(calls: &[Vec<Call>]) -> [(&'static str, Cost); 11] {
+fn costs(calls: &[Vec<Call>]) -> [(&'static str, Cost); 12] {
     let [mut factory, mut tick, mut telegram, mut write, mut warm_start, mut read] = [Cost::default(); 6];
-    let [mut image, mut total, mut version, mut pack, mut unpack] = [Cost::default(); 5];
+    let [mut image, mut total, mut load, mut version, mut pack, mut unpack] = [Cost::default(); 6];
     macro_rules! measured {
         ($cost:ident, $call:expr) => {{
             let top = stack_pointer();
@@ -144,8 +183,8 @@ fn costs(calls: &[Vec<Call>]) -> [(&'static str, Cost); 11] {
                     let (ain, tot) = (Pair { bits: ain.0, status: ain.1 }, Pair { bits: tot.0, status: tot.1 });
                     black_box(measured!(tick, head.tick_in_numbers(fault, ain, tot)));
                 }
-                Call::Telegram(input, bytes) => {
-                    black_box(measured!(telegram, head.telegram_in_numbers(input, &bytes)));
+                Call::Telegram(input, ref bytes) => {
+                    black_box(measured!(telegram, head.telegram_in_numbers(input, bytes)));
                 }
                 Call::Write(block, parameter, first, second) => {
                     black_box(measured!(write, head.write_in_numbers(block, parameter, first, second)));
@@ -162,6 +201,9 @@ fn costs(calls: &[Vec<Call>]) -> [(&'static str, Cost); 11] {
                 }
                 Call::Total => {
                     black_box(measured!(total, head.total_in_numbers()));
+                }
+                Call::Load(ref bytes) => {
+                    black_box(measured!(load, head.load_in_numbers(bytes)));
                 }
                 // has no function in the archive
                 Call::Part(..) => {}
@@ -182,6 +224,7 @@ fn costs(calls: &[Vec<Call>]) -> [(&'static str, Cost); 11] {
         ("serkoviu_read", read),
         ("serkoviu_image", image),
         ("serkoviu_total", total),
+        ("serkoviu_load", load),
         ("serkoviu_version", version),
         ("serkoviu_pack", pack),
         ("serkoviu_unpack", unpack),
@@ -193,9 +236,17 @@ fn main() {
     let times = arguments.get(1).and_then(|times| times.parse().ok()).unwrap_or(1);
     let seed = std::env::var("SERKOVIU_SEED").map_or(1, |seed| seed.parse().expect("a number"));
     let calls: Vec<_> = histories(seed, 400).collect();
+    let measured = || -> Vec<_> {
+        let mut random = Random::new(seed);
+        match arguments.get(2).map(String::as_str) {
+            None => calls.iter().map(|history| without_table(history)).collect(),
+            Some("table") => calls.iter().map(|history| with_table(history, &mut random)).collect(),
+            Some(word) => panic!("bench archive|model TIMES, with nothing or `table` after it: {word}"),
+        }
+    };
     let (ticks, seconds) = match arguments.first().map(String::as_str) {
-        Some("archive") => play(Archive::factory, &calls, times),
-        Some("model") => play(Model::factory, &calls, times),
+        Some("archive") => play(Archive::factory, &measured(), times),
+        Some("model") => play(Model::factory, &measured(), times),
         Some("calls") => {
             for (name, cost) in costs(&calls[..100]) {
                 println!("{name} {} {}", cost.called, cost.deepest);
@@ -206,7 +257,7 @@ fn main() {
             println!("{} {}", size_of::<Device>(), size_of::<Model>());
             return;
         }
-        _ => panic!("bench archive|model TIMES, bench calls, or bench size"),
+        _ => panic!("bench archive|model TIMES [table], bench calls, or bench size"),
     };
     println!("{ticks} {:.2}", seconds / ticks as f64 * 1e9);
 }

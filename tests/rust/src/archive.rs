@@ -66,6 +66,7 @@ extern "C" {
     fn serkoviu_read(device: *const Device, block: u8, parameter: u8) -> ReadingNumbers;
     fn serkoviu_image(device: *const Device, buffer: *mut u8, length: usize) -> u8;
     fn serkoviu_total(device: *const Device) -> i64;
+    fn serkoviu_load(device: *mut Device, bytes: *const u8, length: usize) -> u8;
     fn serkoviu_version() -> u32;
     fn serkoviu_pack(device: *const Device, buffer: *mut u8, length: usize) -> u8;
     fn serkoviu_unpack(device: *mut Device, bytes: *const u8, length: usize) -> u8;
@@ -127,6 +128,11 @@ impl Archive {
     #[inline(always)]
     pub fn total_in_numbers(&self) -> i64 {
         unsafe { serkoviu_total(&self.device) }
+    }
+
+    #[inline(always)]
+    pub fn load_in_numbers(&mut self, bytes: &[u8]) -> u8 {
+        unsafe { serkoviu_load(&mut self.device, bytes.as_ptr(), bytes.len()) }
     }
 
     #[inline(always)]
@@ -193,5 +199,9 @@ impl Head for Archive {
 
     fn total(&self) -> i64 {
         self.total_in_numbers()
+    }
+
+    fn load(&mut self, bytes: &[u8]) -> Result<(), u8> {
+        accepted(self.load_in_numbers(bytes))
     }
 }

@@ -24,10 +24,14 @@ pub trait Head {
     fn image(&self, buf: &mut [u8]) -> Result<(), u8>;
     fn part<'a>(&self, block: u8, buf: &'a [u8]) -> &'a [u8];
     fn total(&self) -> i64;
+    /// Loads AIN's linearisation table.
+    fn load(&mut self, bytes: &[u8]) -> Result<(), u8>;
 }
 
 /// Most bytes of a telegram or buffer in a script.
 pub const MOST_BYTES: usize = 64;
+/// Most bytes of a load in a script.
+pub const MOST_LOADED: usize = 256;
 /// Longest line of a script, its 0x0A not counted.
 pub const LONGEST_LINE: usize = 4096;
 /// What the buffer of an `image` call holds before it.
@@ -56,7 +60,8 @@ impl Deref for Bytes {
     }
 }
 
-#[derive(Clone, Copy, PartialEq, Eq, Debug)]
+/// A load is seldom made and up to four times as long as a telegram, so its bytes lie elsewhere.
+#[derive(Clone, PartialEq, Eq, Debug)]
 pub enum Call {
     Tick { fault: bool, ain: (u32, u8), tot: (u32, u8) },
     Telegram(u8, Bytes),
@@ -67,6 +72,7 @@ pub enum Call {
     Image(u8),
     Part(u8, u8),
     Total,
+    Load(Box<[u8]>),
 }
 
 #[derive(Clone, Copy, PartialEq, Eq, Debug)]
@@ -90,7 +96,7 @@ impl Call {
         };
         match *self {
             Call::Tick { fault, ain, tot } => Answer::Order(head.tick(fault, ain.0, ain.1, tot.0, tot.1)),
-            Call::Telegram(input, bytes) => accepted(head.telegram(input, &bytes)),
+            Call::Telegram(input, ref bytes) => accepted(head.telegram(input, bytes)),
             Call::Write(block, parameter, w1, w2) => accepted(head.write(block, parameter, w1, w2)),
             Call::Read(block, parameter) => match head.read(block, parameter) {
                 Ok((w1, w2)) => Answer::Words(w1, w2),
@@ -126,6 +132,7 @@ impl Call {
                 }
             }
             Call::Total => Answer::Total(head.total()),
+            Call::Load(ref bytes) => accepted(head.load(bytes)),
         }
     }
 }
@@ -133,6 +140,8 @@ impl Call {
 /// The line of the call script, without 0x0A.
 impl fmt::Display for Call {
     fn fmt(&self, f: &mut fmt::Formatter) -> fmt::Result {
+        let write_bytes =
+            |f: &mut fmt::Formatter, bytes: &[u8]| bytes.iter().try_for_each(|byte| write!(f, " {byte:#04X}"));
         match self {
             Call::Tick { fault, ain, tot } => {
                 let fault = u8::from(*fault);
@@ -140,7 +149,7 @@ impl fmt::Display for Call {
             }
             Call::Telegram(input, bytes) => {
                 write!(f, "telegram {input}")?;
-                bytes.iter().try_for_each(|&byte| write!(f, " {:#04X}", byte))
+                write_bytes(f, bytes)
             }
             Call::Write(block, parameter, w1, w2) => {
                 write!(f, "write {block} {parameter} {:#010X} {:#010X}", *w1, *w2)
@@ -151,6 +160,10 @@ impl fmt::Display for Call {
             Call::Image(length) => write!(f, "image {length}"),
             Call::Part(block, length) => write!(f, "part {block} {length}"),
             Call::Total => write!(f, "total"),
+            Call::Load(bytes) => {
+                write!(f, "load")?;
+                write_bytes(f, bytes)
+            }
         }
     }
 }
@@ -175,7 +188,7 @@ impl fmt::Display for Answer {
 }
 
 /// What a line of a script is.
-#[derive(Clone, Copy, PartialEq, Eq, Debug)]
+#[derive(Clone, PartialEq, Eq, Debug)]
 pub enum Line {
     Call(Call),
     /// No word or a remark: no answer.
@@ -207,13 +220,7 @@ fn parse_call<'a>(name: &[u8], mut words: impl Iterator<Item = &'a [u8]>) -> Opt
         },
         b"telegram" => {
             let input = number(255)? as u8;
-            let mut bytes = [0; MOST_BYTES];
-            let mut length = 0;
-            for word in words.by_ref() {
-                *bytes.get_mut(length)? = self::number(word, 255)? as u8;
-                length += 1;
-            }
-            Call::Telegram(input, Bytes::new(&bytes[..length]))
+            Call::Telegram(input, Bytes::new(&bytes(&mut words, MOST_BYTES)?))
         }
         b"write" => Call::Write(number(255)? as u8, number(255)? as u8, number(u32::MAX)?, number(u32::MAX)?),
         b"read" => Call::Read(number(255)? as u8, number(255)? as u8),
@@ -222,9 +229,16 @@ fn parse_call<'a>(name: &[u8], mut words: impl Iterator<Item = &'a [u8]>) -> Opt
         b"image" => Call::Image(number(MOST_BYTES as u32)? as u8),
         b"part" => Call::Part(number(255)? as u8, number(MOST_BYTES as u32)? as u8),
         b"total" => Call::Total,
+        b"load" => Call::Load(bytes(&mut words, MOST_LOADED)?.into()),
         _ => return None,
     };
     words.next().is_none().then_some(call)
+}
+
+/// All words that are left, as bytes.
+fn bytes<'a>(words: &mut impl Iterator<Item = &'a [u8]>, most: usize) -> Option<Vec<u8>> {
+    let bytes: Option<Vec<u8>> = words.map(|word| number(word, 255).map(|byte| byte as u8)).collect();
+    bytes.filter(|bytes| bytes.len() <= most)
 }
 
 /// Decimal, or hexadecimal after `0x`; any number of leading zeros.

@@ -10,7 +10,7 @@ pub type Make<'a> = &'a dyn Fn() -> Box<dyn Head>;
 /// Every parameter of every block.
 pub const PARAMETERS: [(u8, &[u8]); 4] = [
     (0, &[18]),
-    (1, &[1, 5, 6, 7, 10, 11, 12, 16, 17, 18, 19, 21, 23, 25, 27]),
+    (1, &[1, 5, 6, 7, 10, 11, 12, 13, 16, 17, 18, 19, 21, 23, 25, 27]),
     (2, &[1, 5, 6, 10, 13, 14, 15, 16]),
     (3, &[1, 5, 6, 11, 23, 24, 25, 36, 37, 38]),
 ];
@@ -49,7 +49,7 @@ pub fn run(left: Make, right: Make, history: &[Call]) -> Option<Difference> {
     for call in all {
         let answers = (call.on(left), call.on(right));
         if answers.0 != answers.1 {
-            let history = history.iter().copied().chain([call]).collect();
+            let history = history.iter().cloned().chain([call]).collect();
             return Some(Difference { history, left: answers.0, right: answers.1 });
         }
     }
@@ -77,7 +77,10 @@ fn step(left: &mut dyn Head, right: &mut dyn Head, call: &Call) -> Option<(Optio
     if left.total() != right.total() {
         probe = probe.or(Some(Call::Total));
     }
-    probe.map(|probe| (Some(probe), probe.on(left), probe.on(right)))
+    probe.map(|probe| {
+        let answers = (probe.on(left), probe.on(right));
+        (Some(probe), answers.0, answers.1)
+    })
 }
 
 /// Compares over histories, and shrinks the first difference. Gives the number of calls made.
@@ -152,7 +155,7 @@ impl Shrinking<'_> {
         let mut simplified = false;
         let mut index = 0;
         while index < self.best.history.len() && !self.spent() {
-            let call = self.best.history[index];
+            let call = self.best.history[index].clone();
             for simpler in simpler(&call) {
                 let mut history = self.best.history.clone();
                 if index < history.len() && history[index] == call && simpler != call {
@@ -199,6 +202,22 @@ fn simpler(call: &Call) -> Vec<Call> {
         Call::Write(block, parameter, w1, w2) => {
             calls.extend(floats(w1).map(|w1| Call::Write(block, parameter, w1, w2)));
             calls.extend(floats(w2).map(|w2| Call::Write(block, parameter, w1, w2)));
+        }
+        Call::Load(ref bytes) => {
+            // Half of the pairs, then all but one, then plainer floats; bytes that are no whole pair stay.
+            let pairs = bytes.len() / 8;
+            let removals =
+                [(0, pairs / 2), (pairs / 2, pairs)].into_iter().chain((0..pairs).map(|pair| (pair, pair + 1)));
+            for (from, to) in removals.filter(|(from, to)| from < to) {
+                calls.push(Call::Load([&bytes[..8 * from], &bytes[8 * to..]].concat().into()));
+            }
+            for (word, old) in bytes.chunks_exact(4).enumerate() {
+                for bits in floats(u32::from_be_bytes([old[0], old[1], old[2], old[3]])) {
+                    let mut bytes = bytes.clone();
+                    bytes[4 * word..][..4].copy_from_slice(&bits.to_be_bytes());
+                    calls.push(Call::Load(bytes));
+                }
+            }
         }
         _ => {}
     }

@@ -2,7 +2,7 @@
 //! limit; so each history has a profile of weights, and the maker keeps a model of its own to see what is in force.
 //! A history is a plain list of calls and depends on its seed and index alone.
 
-use crate::calls::{Bytes, Call};
+use crate::calls::{Answer, Bytes, Call};
 use crate::compare::PARAMETERS;
 use crate::model::Model;
 use crate::random::Random;
@@ -21,6 +21,7 @@ pub fn history(seed: u64, index: u64) -> Vec<Call> {
         random: Random::new(seed ^ index.wrapping_mul(0xD134_2543_DE82_EF95)),
         model: Model::factory(),
         calls: Vec::new(),
+        table: Vec::new(),
         profile: &PROFILES[(index % PROFILES.len() as u64) as usize],
     };
     if index % LONG_EVERY == LONG_EVERY - 1 {
@@ -39,8 +40,8 @@ pub fn history(seed: u64, index: u64) -> Vec<Call> {
 }
 
 struct Profile {
-    /// Weights of tick, telegram, write, read, warm start, factory, image, part and total.
-    calls: [u32; 9],
+    /// Weights of tick, telegram, write, read, warm start, factory, image, part, total and load.
+    calls: [u32; 10],
     /// Weights of the blocks in writes.
     blocks: [u32; 4],
     /// Per cent of writes and telegrams that are meant to be refused.
@@ -55,10 +56,12 @@ struct Profile {
     plain: u32,
     /// Totals near ±10^12 and rates of that size.
     great: bool,
+    /// Per cent of histories that open with a linearisation table in use.
+    table: u32,
 }
 
 const BASE: Profile = Profile {
-    calls: [1000, 120, 250, 20, 3, 1, 3, 3, 3],
+    calls: [1000, 120, 250, 20, 3, 1, 3, 3, 3, 3],
     blocks: [1, 8, 8, 8],
     hostile: 4,
     fault: 2,
@@ -66,26 +69,30 @@ const BASE: Profile = Profile {
     wild: 4,
     plain: 50,
     great: false,
+    table: 20,
 };
 
-const PROFILES: [Profile; 10] = [
+const PROFILES: [Profile; 12] = [
     BASE,
     // AIN: limits and hysteresis rewritten under standing alarms.
-    Profile { calls: [1000, 5, 350, 20, 4, 1, 3, 1, 1], blocks: [1, 60, 2, 2], odd: 12, plain: 80, ..BASE },
+    Profile { calls: [1000, 5, 350, 20, 4, 1, 3, 1, 1, 3], blocks: [1, 60, 2, 2], odd: 12, plain: 80, ..BASE },
     // AIN: filter and scales.
-    Profile { calls: [1000, 5, 200, 20, 4, 1, 3, 1, 1], blocks: [1, 60, 2, 2], odd: 30, plain: 20, ..BASE },
+    Profile { calls: [1000, 5, 200, 20, 4, 1, 3, 1, 1, 3], blocks: [1, 60, 2, 2], odd: 30, plain: 20, ..BASE },
+    // AIN: the linearisation table, then one with floats from the far ends.
+    Profile { calls: [1000, 5, 120, 5, 6, 1, 3, 1, 1, 12], blocks: [1, 60, 2, 2], plain: 80, table: 90, ..BASE },
+    Profile { calls: [1000, 5, 120, 5, 6, 1, 3, 1, 1, 12], blocks: [1, 60, 2, 2], wild: 30, table: 90, ..BASE },
     // TOT: small rates, then great ones.
-    Profile { calls: [1000, 5, 200, 20, 4, 1, 3, 1, 9], blocks: [1, 2, 60, 2], odd: 30, ..BASE },
-    Profile { calls: [1000, 5, 120, 20, 4, 1, 3, 1, 9], blocks: [1, 2, 60, 2], odd: 15, great: true, ..BASE },
+    Profile { calls: [1000, 5, 200, 20, 4, 1, 3, 1, 9, 1], blocks: [1, 2, 60, 2], odd: 30, ..BASE },
+    Profile { calls: [1000, 5, 120, 20, 4, 1, 3, 1, 9, 1], blocks: [1, 2, 60, 2], odd: 15, great: true, ..BASE },
     // AO: telegrams and silence.
-    Profile { calls: [1000, 250, 150, 20, 4, 1, 3, 1, 1], blocks: [1, 2, 2, 60], odd: 30, ..BASE },
-    Profile { calls: [1000, 120, 60, 20, 10, 1, 3, 1, 1], blocks: [1, 2, 2, 60], odd: 20, wild: 1, ..BASE },
+    Profile { calls: [1000, 250, 150, 20, 4, 1, 3, 1, 1, 1], blocks: [1, 2, 2, 60], odd: 30, ..BASE },
+    Profile { calls: [1000, 120, 60, 20, 10, 1, 3, 1, 1, 1], blocks: [1, 2, 2, 60], odd: 20, wild: 1, ..BASE },
     // Refusals of all kinds, often locked.
-    Profile { calls: [300, 200, 600, 200, 5, 5, 60, 60, 5], blocks: [8, 8, 8, 8], hostile: 50, ..BASE },
+    Profile { calls: [300, 200, 600, 200, 5, 5, 60, 60, 5, 40], blocks: [8, 8, 8, 8], hostile: 50, ..BASE },
     // The far ends of the floats.
-    Profile { calls: [1000, 120, 350, 20, 4, 1, 3, 3, 3], wild: 45, plain: 60, odd: 15, ..BASE },
+    Profile { calls: [1000, 120, 350, 20, 4, 1, 3, 3, 3, 5], wild: 45, plain: 60, odd: 15, ..BASE },
     // Modes: faults, Man, O/S, warm starts.
-    Profile { calls: [1000, 150, 450, 20, 30, 3, 3, 3, 3], fault: 12, ..BASE },
+    Profile { calls: [1000, 150, 450, 20, 30, 3, 3, 3, 3, 3], fault: 12, ..BASE },
 ];
 
 #[rustfmt::skip]
@@ -97,6 +104,9 @@ const FAR_ENDS: [u32; 22] = [
     0x7FC0_0000, 0xFFC0_0000, 0x7F80_0001, 0xFF80_0001, 0x7FFF_FFFF, 0xFFFF_FFFF, // NaNs
 ];
 
+/// The infinities and NaNs of them.
+const NOT_FINITE: &[u32] = FAR_ENDS.split_at(14).1;
+
 const PLAIN_SCALES: [(f32, f32); 4] = [(0.0, 1.0), (0.0, 64.0), (0.0, 100.0), (-32.0, 32.0)];
 #[rustfmt::skip]
 const OTHER_SCALES: [(f32, f32); 12] = [
@@ -104,16 +114,33 @@ const OTHER_SCALES: [(f32, f32); 12] = [
     (1e-45, 0.0), (-3e38, 3e38), (3e38, -3e38), (1.0, 1e-30),
 ];
 
+/// The bytes of a load.
+fn bytes(pairs: &[(f32, f32)]) -> Vec<u8> {
+    pairs.iter().flat_map(|&(x, y)| [x.to_be_bytes(), y.to_be_bytes()]).flatten().collect()
+}
+
+/// The pairs of a load that was accepted.
+fn pairs(bytes: &[u8]) -> Vec<(f32, f32)> {
+    let float = |at: &[u8]| f32::from_be_bytes([at[0], at[1], at[2], at[3]]);
+    bytes.chunks_exact(8).map(|pair| (float(&pair[..4]), float(&pair[4..]))).collect()
+}
+
 struct Maker {
     random: Random,
     model: Model,
     calls: Vec<Call>,
+    /// The pairs loaded last, x and y.
+    table: Vec<(f32, f32)>,
     profile: &'static Profile,
 }
 
 impl Maker {
     fn push(&mut self, call: Call) {
-        call.on(&mut self.model);
+        match (&call, call.on(&mut self.model)) {
+            (Call::Load(bytes), Answer::Ok) => self.table = pairs(bytes),
+            (Call::Factory, _) => self.table.clear(),
+            _ => {}
+        }
         self.calls.push(call);
     }
 
@@ -131,6 +158,10 @@ impl Maker {
     fn opening(&mut self) {
         for _ in 0..self.random.below(12) {
             self.allowed_write();
+        }
+        if self.random.chance(self.profile.table) {
+            self.load();
+            self.write(1, 13, (1, 0));
         }
     }
 
@@ -157,7 +188,9 @@ impl Maker {
                 let length = self.random.below(65) as u8;
                 self.push(Call::Part(block, length));
             }
-            _ => self.push(Call::Total),
+            8 => self.push(Call::Total),
+            _ if self.random.chance(30 + self.profile.hostile) => self.hostile_load(),
+            _ => self.load(),
         }
     }
 
@@ -233,6 +266,9 @@ impl Maker {
         if let Some(bits) = self.wild() {
             return bits;
         }
+        if self.linearised() && self.random.chance(65) {
+            return self.at_the_table();
+        }
         let (pv_low, pv_high) = self.scale_in_force(1, 11);
         if self.random.chance(50) {
             return (self.between(pv_low, pv_high) as f32).to_bits();
@@ -246,7 +282,41 @@ impl Maker {
         }
         let (low, high) = self.scale_in_force(1, 12);
         let x = (wanted - low) / (high - low) * (pv_high - pv_low) + pv_low;
+        let x = if self.linearised() { self.before_the_table(x) } else { x };
         self.near(x)
+    }
+
+    fn linearised(&self) -> bool {
+        self.model.read(1, 13) == Ok((1, 0))
+    }
+
+    /// An input at which the table matters: an x of it, the floats next to that, the middle of a segment.
+    fn at_the_table(&mut self) -> u32 {
+        let at = self.random.below(self.table.len() as u32) as usize;
+        let x = self.table[at].0;
+        let next = self.table[(at + 1).min(self.table.len() - 1)].0;
+        let input = match self.random.below(10) {
+            0..=2 => x,
+            3 => x.next_up(),
+            4 => x.next_down(),
+            5 => (f64::from(x) / 2.0 + f64::from(next) / 2.0) as f32,
+            6 | 7 => (f64::from(x) + self.random.unit() * (f64::from(next) - f64::from(x))) as f32,
+            // The other zero, or past an end.
+            _ if x == 0.0 => -x,
+            8 => self.table[0].0 - self.random.pick(&[0.25, 1.0, 1e30]),
+            _ => self.table[self.table.len() - 1].0 + self.random.pick(&[0.25, 1.0, 1e30]),
+        };
+        input.to_bits()
+    }
+
+    /// Backwards through the table: an input that it takes to a value, or near it.
+    fn before_the_table(&self, wanted: f64) -> f64 {
+        let held = |two: &[(f32, f32)]| {
+            let [(x0, y0), (x1, y1)] = [two[0], two[1]].map(|(x, y)| (f64::from(x), f64::from(y)));
+            let at = (wanted - y0) / (y1 - y0);
+            (0.0..=1.0).contains(&at).then_some(x0 + at * (x1 - x0))
+        };
+        self.table.windows(2).find_map(held).unwrap_or(wanted)
     }
 
     fn rate(&mut self) -> u32 {
@@ -349,7 +419,7 @@ impl Maker {
         }
     }
 
-    /// Words that are allowed, but for a few from the far ends.
+    /// Words that are allowed, but for a few from the far ends and of LIN_TYPE.
     fn words(&mut self, block: u8, parameter: u8) -> (u32, u32) {
         match (block, parameter) {
             (0, _) => (if self.random.chance(60) { 2457 } else { 0 }, 0),
@@ -368,6 +438,7 @@ impl Maker {
                 (ftime.to_bits(), 0)
             }
             (1, 17) | (3, 24) | (2, 15) => (self.random.below(3), 0),
+            (1, 13) => (self.random.pick(&[0, 0, 1, 1, 1, 1, 1, 1, 1, 2]), 0),
             (2, 13) => (self.random.pick(&[0, 0, 0, 0, 1, 2]), 0),
             (2, 14) => (self.random.pick(&[0, 0, 0, 1, 2, 3]), 0),
             (1, 18) => (self.setting(1, 12), 0),
@@ -489,7 +560,7 @@ impl Maker {
                 2 => (allowed.0, allowed.0 ^ 1),
                 _ => (self.random.pick(&FAR_ENDS), self.random.pick(&FAR_ENDS)),
             },
-            (_, 5) | (1, 17) | (2, 13..=15) | (3, 23 | 24 | 36) => (self.random.pick(&CODES), 0),
+            (_, 5) | (1, 13 | 17) | (2, 13..=15) | (3, 23 | 24 | 36) => (self.random.pick(&CODES), 0),
             (1 | 2, 10) | (3, 37) => match self.random.below(3) {
                 0 => (allowed.0, self.random.pick(&[0, 255, 256, 0x180, u32::MAX])),
                 1 => (self.random.pick(&FAR_ENDS), allowed.1),
@@ -501,6 +572,127 @@ impl Maker {
             }
             _ => (self.random.pick(&FAR_ENDS), 0),
         }
+    }
+
+    // Loads
+
+    fn load_pairs(&mut self, pairs: &[(f32, f32)]) {
+        self.push(Call::Load(bytes(pairs).into()));
+    }
+
+    fn load(&mut self) {
+        let count = match self.random.below(8) {
+            0..=2 => self.random.pick(&[2, 3, 4]),
+            3 => self.random.pick(&[20, 21]),
+            4 => 21,
+            _ => 2 + self.random.below(20) as usize,
+        };
+        // Seldom the same once more.
+        let again = !self.table.is_empty() && self.random.chance(8);
+        let table = if again { self.table.clone() } else { self.rising_pairs(count) };
+        self.load_pairs(&table);
+    }
+
+    /// Pairs that make a table, as many as wanted or, where their x fall together, fewer.
+    fn rising_pairs(&mut self, count: usize) -> Vec<(f32, f32)> {
+        let finite = |bits: u32| Some(f32::from_bits(bits)).filter(|value| value.is_finite());
+        let far = self.random.chance(self.profile.wild);
+        let kind = self.random.below(6);
+        let start = self.random.pick(&[0.0, -0.0, -4.0, 1.0, 100.0, 1e-40, -1e-44]);
+        let step = self.random.pick(&[0.25, 1.0, 5.0, 1e-3, 1e6]);
+        let mut xs = Vec::new();
+        let mut x: f32 = start;
+        for _ in 0..count {
+            xs.push(x);
+            x = match kind {
+                // Even steps, uneven ones, the very next float, random ones.
+                0 | 1 => x + step,
+                2 | 3 => x + step * (1.0 + self.random.below(8) as f32 / 4.0),
+                4 => x.next_up(),
+                _ => self.random.unit() as f32 * 200.0 - 100.0,
+            };
+        }
+        if far {
+            // Some or all of them from the far ends, with spans that overflow.
+            for x in &mut xs {
+                if self.random.chance(60) {
+                    *x = finite(self.random.pick(&FAR_ENDS)).unwrap_or(*x);
+                } else if self.random.chance(30) {
+                    *x = finite(self.random.bits()).unwrap_or(*x);
+                }
+            }
+        }
+        xs.sort_by(|a, b| a.total_cmp(b));
+        xs.dedup_by(|a, b| a == b);
+        if xs.len() < 2 {
+            xs = vec![start, start + 1e3];
+        }
+        let (low, high) = self.scale_in_force(1, 11);
+        let shape = self.random.below(5);
+        let mut y = self.between(low, high);
+        let ys = (0..xs.len()).map(|index| {
+            let far = far && self.random.chance(40);
+            match shape {
+                _ if far => finite(self.random.pick(&FAR_ENDS)).unwrap_or(-0.0),
+                // Over the scale, like a weir's; rising or falling by steps; level; as they come.
+                0 => (low + (high - low) * (index as f64 / (xs.len() - 1) as f64).powf(1.5)) as f32,
+                1 | 2 => {
+                    y += (high - low) / 16.0 * f64::from(self.random.below(9)) * if shape == 1 { 1.0 } else { -1.0 };
+                    y as f32
+                }
+                3 => self.random.pick(&[y as f32, y as f32, 0.0, -0.0]),
+                _ => self.between(low, high) as f32,
+            }
+        });
+        let ys: Vec<f32> = ys.map(|y| if y.is_finite() { y } else { f32::MAX }).collect();
+        xs.into_iter().zip(ys).collect()
+    }
+
+    /// Bytes that make no table, or nearly not.
+    fn hostile_load(&mut self) {
+        if self.random.chance(15) {
+            self.write(0, 18, (0, 0));
+        }
+        let count = self.random.pick(&[2, 3, 5, 20, 21]);
+        let mut table = self.rising_pairs(count);
+        let last = table.len() - 1;
+        // Two neighbours: the first two, the last two or others.
+        let at = self.random.pick(&[0, last - 1, last / 2]);
+        match self.random.below(7) {
+            0 => {
+                // A wrong length, though the pairs rise also where there are too many.
+                let mut table = bytes(&self.rising_pairs(32));
+                table.resize(256, 0x3F);
+                let some = self.random.below(257) as usize;
+                let lengths = [0, 0, 1, 7, 8, 9, 15, 15, 16, 17, 17, 24, 160, 167, 168, 169, 176, 176, 184, 256, some];
+                let length = self.random.pick(&lengths);
+                return self.push(Call::Load(table[..length].into()));
+            }
+            1 if self.random.chance(30) => table[last].0 = f32::INFINITY,
+            1 if self.random.chance(30) => table[0].0 = f32::NEG_INFINITY,
+            1 => table[self.random.pick(&[0, at, last])].0 = f32::from_bits(self.random.pick(NOT_FINITE)),
+            2 => table[self.random.pick(&[0, at, last])].1 = f32::from_bits(self.random.pick(NOT_FINITE)),
+            3 => table[at + 1].0 = table[at].0,
+            4 => (table[at].0, table[at + 1].0) = (table[at + 1].0, table[at].0),
+            5 => {
+                // Both zeros, with x that rise around them.
+                for (index, pair) in table.iter_mut().enumerate() {
+                    pair.0 = index as f32 - at as f32;
+                }
+                for pair in &mut table[at + 2..] {
+                    pair.0 -= 1.0;
+                }
+                (table[at].0, table[at + 1].0) = self.random.pick(&[(-0.0, 0.0), (-0.0, 0.0), (0.0, -0.0)]);
+            }
+            _ => table[at + 1].0 = self.random.pick(&[table[at].0.next_up(), table[at].0.next_down(), -table[at].0]),
+        }
+        let mut table = bytes(&table);
+        if self.random.chance(20) {
+            // A few bytes more or less.
+            let length = table.len() - 4 + self.random.below(9) as usize;
+            table.resize(length, 0);
+        }
+        self.push(Call::Load(table.into()));
     }
 
     // Long histories
@@ -535,12 +727,16 @@ impl Maker {
         }
     }
 
-    /// ST_REV past its end, by equal and unequal writes.
+    /// ST_REV past its end, by equal and unequal writes, and in AIN by loads too.
     fn many_writes(&mut self) {
         self.opening();
         self.write(0, 18, (2457, 0));
         let (block, parameter) = self.random.pick(&[(1, 17), (2, 15), (3, 24)]);
         for _ in 0..65_536 + 20 {
+            if block == 1 && self.random.chance(25) {
+                self.load_pairs(&[(0.0, 0.0), (1.0, 10.0)]);
+                continue;
+            }
             let code = if self.random.chance(50) { 1 } else { self.random.below(3) };
             self.write(block, parameter, (code, 0));
         }

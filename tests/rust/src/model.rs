@@ -19,6 +19,10 @@ const HI: u8 = 2;
 const LO: u8 = 4;
 const LO_LO: u8 = 8;
 
+/// A table has 2 to 21 pairs of eight bytes.
+const MOST_PAIRS: usize = 21;
+const PAIR_BYTES: usize = 8;
+
 const MOST_INCREMENT: i64 = 1_000_000_000;
 const MOST_TOTAL: i64 = 1_000_000_000_000;
 
@@ -46,6 +50,63 @@ impl Scale {
     }
 }
 
+/// A pair of the linearisation table.
+#[derive(Clone, Copy)]
+struct Point {
+    x: f32,
+    y: f32,
+}
+
+/// The linearisation table. All its floats are finite and the x rise strictly.
+#[derive(Clone)]
+struct Table {
+    points: [Point; MOST_PAIRS],
+    /// Pairs loaded; 0 while there is no table.
+    pairs: usize,
+}
+
+impl Table {
+    const NONE: Table = Table { points: [Point { x: 0.0, y: 0.0 }; MOST_PAIRS], pairs: 0 };
+
+    /// Grounds 9 and 10.
+    fn from_bytes(bytes: &[u8]) -> Result<Table, u8> {
+        let pairs = bytes.len() / PAIR_BYTES;
+        if bytes.len() % PAIR_BYTES != 0 || !(2..=MOST_PAIRS).contains(&pairs) {
+            return Err(9);
+        }
+        let mut table = Table { pairs, ..Table::NONE };
+        for (point, bytes) in table.points.iter_mut().zip(bytes.chunks_exact(PAIR_BYTES)) {
+            let float = |at: usize| f32::from_be_bytes([bytes[at], bytes[at + 1], bytes[at + 2], bytes[at + 3]]);
+            *point = Point { x: float(0), y: float(4) };
+        }
+        let points = table.loaded();
+        let finite = points.iter().all(|point| point.x.is_finite() && point.y.is_finite());
+        let rising = points.windows(2).all(|two| two[0].x < two[1].x);
+        (finite && rising).then_some(table).ok_or(10)
+    }
+
+    fn loaded(&self) -> &[Point] {
+        &self.points[..self.pairs]
+    }
+
+    /// "The pair used is the last with its x at or below the input." As the x rise, those come first, and a search by
+    /// halves counts them.
+    fn value(&self, x: f32) -> f32 {
+        if !x.is_finite() {
+            return x;
+        }
+        let points = self.loaded();
+        match points.partition_point(|point| point.x <= x) {
+            0 => points[0].y,
+            count if count == points.len() => points[count - 1].y,
+            count => {
+                let (from, to) = (points[count - 1], points[count]);
+                from.y + (x - from.x) * (to.y - from.y) / (to.x - from.x)
+            }
+        }
+    }
+}
+
 /// What blocks 1 to 3 have alike.
 #[derive(Clone)]
 struct Common {
@@ -56,6 +117,11 @@ struct Common {
 
 impl Common {
     const FRESH: Common = Common { st_rev: 0, target: AUTO, actual: OUT_OF_SERVICE };
+
+    /// An accepted static write.
+    fn count(&mut self) {
+        self.st_rev = self.st_rev.wrapping_add(1);
+    }
 
     fn set_actual(&mut self, fault: bool) -> u8 {
         self.actual = if fault { OUT_OF_SERVICE } else { self.target };
@@ -71,6 +137,8 @@ struct Ain {
     operator: Pair,
     pv_scale: Scale,
     out_scale: Scale,
+    lin_type: u8,
+    table: Table,
     pv_ftime: f32,
     fsafe_type: u8,
     fsafe_value: f32,
@@ -158,8 +226,10 @@ impl Ain {
         }
     }
 
+    /// From a linearised value that is not finite no finite one is scaled, so it needs no test of its own.
     fn auto(&mut self, x: f32, status: u8) {
-        let scaled = self.out_scale.value(self.pv_scale.fraction(x));
+        let linear = if self.lin_type == 1 { self.table.value(x) } else { x };
+        let scaled = self.out_scale.value(self.pv_scale.fraction(linear));
         let pv = match self.filter {
             Some(old) if self.pv_ftime != 0.0 => old + (scaled - old) / (self.pv_ftime * 10.0 + 1.0),
             _ => scaled,
@@ -419,7 +489,7 @@ fn class(block: u8, parameter: u8) -> Result<Class, u8> {
     match (block, parameter) {
         (1..=3, 1 | 6) | (1, 7) => Ok(Class::ReadOnly),
         (1..=3, 5) => Ok(Class::Static),
-        (1, 11 | 12 | 16..=19 | 21 | 23 | 25 | 27) => Ok(Class::Static),
+        (1, 11..=13 | 16..=19 | 21 | 23 | 25 | 27) => Ok(Class::Static),
         (2, 15 | 16) => Ok(Class::Static),
         (3, 11 | 23..=25 | 36 | 38) => Ok(Class::Static),
         (0, 18) | (2, 10 | 13 | 14) => Ok(Class::Kept),
@@ -446,6 +516,8 @@ impl Model {
                 operator: SET_BY_NO_ONE,
                 pv_scale: Scale::DEFAULT,
                 out_scale: Scale::DEFAULT,
+                lin_type: 0,
+                table: Table::NONE,
                 pv_ftime: 0.0,
                 fsafe_type: 1,
                 fsafe_value: 0.0,
@@ -540,8 +612,17 @@ impl Model {
             _ => self.ao.write(parameter, words)?,
         };
         if class == Class::Static {
-            common.st_rev = common.st_rev.wrapping_add(1);
+            common.count();
         }
+        Ok(())
+    }
+
+    pub fn load(&mut self, bytes: &[u8]) -> Result<(), u8> {
+        if self.write_locking == 0 {
+            return Err(4);
+        }
+        self.ain.table = Table::from_bytes(bytes)?;
+        self.ain.common.count();
         Ok(())
     }
 
@@ -599,6 +680,13 @@ impl Ain {
             }
             11 => self.pv_scale = words.scale()?,
             12 => self.out_scale = words.scale()?,
+            13 => {
+                let code = words.code(1)?;
+                if code == 1 && self.table.pairs == 0 {
+                    return Err(5);
+                }
+                self.lin_type = code;
+            }
             16 => self.pv_ftime = words.float(|v| (0.0..=3600.0).contains(&v))?,
             17 => self.fsafe_type = words.code(2)?,
             18 => self.fsafe_value = words.float(f32::is_finite)?,
@@ -619,6 +707,7 @@ impl Ain {
             10 => (self.out.value.to_bits(), self.out.status.into()),
             11 => (self.pv_scale.low.to_bits(), self.pv_scale.high.to_bits()),
             12 => (self.out_scale.low.to_bits(), self.out_scale.high.to_bits()),
+            13 => (self.lin_type.into(), 0),
             16 => one(self.pv_ftime),
             17 => (self.fsafe_type.into(), 0),
             18 => one(self.fsafe_value),
@@ -732,5 +821,9 @@ impl Head for Model {
 
     fn total(&self) -> i64 {
         self.total()
+    }
+
+    fn load(&mut self, bytes: &[u8]) -> Result<(), u8> {
+        self.load(bytes)
     }
 }

@@ -27,7 +27,7 @@ fn the_same_seed_gives_the_same_history() {
 #[test]
 fn calls_and_their_lines() {
     for call in histories(2, 100).flatten() {
-        assert_eq!(parse(call.to_string().as_bytes()), Line::Call(call), "{call}");
+        assert_eq!(parse(call.to_string().as_bytes()), Line::Call(call.clone()), "{call}");
     }
 }
 
@@ -37,16 +37,30 @@ fn histories_reach_all_cases() {
     let mut seen: BTreeMap<String, usize> = BTreeMap::new();
     let mut accepted: BTreeSet<(u8, u8)> = BTreeSet::new();
     let (mut writes, mut refused_writes) = (0, 0);
+    // Tables that another replaced, those of them that saw less than 20 ticks, Auto ticks by a table.
+    let (mut replaced, mut young, mut linearised) = (0, 0, 0);
     for history in histories(1, HISTORIES) {
         let mut head = Model::factory();
+        let (mut table, mut age) = (Vec::new(), 0);
+        let long = history.len() > 10_000;
         for call in history {
             let answer = call.on(&mut head);
             let mut see = |what: String| *seen.entry(what).or_default() += 1;
-            match (call, answer) {
+            match (&call, answer) {
+                (Call::Load(_), Answer::Refused(number)) => see(format!("load refused {number}")),
                 (_, Answer::Refused(number)) => see(format!("refused {number}")),
                 (_, Answer::Order(Order::Position(_))) => see("position".into()),
                 (_, Answer::Order(order)) => see(format!("{order:?}")),
-                (Call::Write(block, parameter, ..), Answer::Ok) => _ = accepted.insert((block, parameter)),
+                (&Call::Write(block, parameter, ..), Answer::Ok) => _ = accepted.insert((block, parameter)),
+                (Call::Load(bytes), Answer::Ok) => {
+                    see(format!("load of {} pairs", bytes.len() / 8));
+                    if !table.is_empty() && !long {
+                        replaced += 1;
+                        young += usize::from(age < 20);
+                    }
+                    (table, age) = (pairs(bytes), 0);
+                }
+                (Call::Factory, _) => table.clear(),
                 _ => {}
             }
             match call {
@@ -65,12 +79,34 @@ fn histories_reach_all_cases() {
                     see(format!("alarms {}", head.read(1, 7).unwrap().0));
                     see(format!("input status {}", ain.1));
                     see(format!("end of the total {}", head.total() / 1_000_000_000_000));
+                    age += 1;
+                    if head.read(1, 13) == Ok((1, 0)) && head.read(1, 6) == Ok((8, 0)) {
+                        linearised += 1;
+                        let usable = head.read(1, 10).unwrap().1 >= 0x80;
+                        see(format!("{} by the table, usable: {usable}", place(&table, f32::from_bits(ain.0))));
+                        let settings = [16, 17].map(|parameter| head.read(1, parameter).unwrap().0);
+                        let filter = if settings[0] << 1 == 0 { "no filter" } else { "filter" };
+                        see(format!("{filter}, type {}, quality {} by the table", settings[1], ain.1 >> 6));
+                    }
                 }
                 _ => {}
             }
         }
     }
     let mut wanted: Vec<String> = (1..=8).map(|number| format!("refused {number}")).collect();
+    wanted.extend([4, 9, 10].map(|number| format!("load refused {number}")));
+    wanted.extend((2..=21).map(|pairs| format!("load of {pairs} pairs")));
+    for place in PLACES {
+        // A value that is not finite is never usable, nor is a result that is not.
+        wanted.extend([true, false].map(|usable| format!("{place} by the table, usable: {usable}")));
+    }
+    wanted.push("not finite by the table, usable: false".into());
+    wanted.push("no finite value by the table, usable: false".into());
+    for filter in ["no filter", "filter"] {
+        for fsafe_type in 0..3 {
+            wanted.extend((0..4).map(|quality| format!("{filter}, type {fsafe_type}, quality {quality} by the table")));
+        }
+    }
     wanted.extend(["position", "Safe", "Rest", "end of the total 1", "end of the total -1"].map(String::from));
     wanted.extend((0..16).map(|alarms| format!("alarms {alarms}")));
     wanted.extend((0..256).map(|status| format!("input status {status}")));
@@ -85,8 +121,46 @@ fn histories_reach_all_cases() {
         let times = seen.get(&what).copied().unwrap_or(0);
         assert!(times >= 100, "{what}: {times} times");
     }
-    assert_eq!(accepted.len(), 1 + 12 + 6 + 8, "every parameter but those that are R: {accepted:?}");
+    assert_eq!(accepted.len(), 1 + 13 + 6 + 8, "every parameter but those that are R: {accepted:?}");
     assert!(refused_writes * 2 < writes, "{refused_writes} of {writes} writes refused");
+    assert!(young * 3 < replaced, "{young} of {replaced} tables replaced soon");
+    assert!(linearised >= 500_000, "{linearised} ticks by a table");
+}
+
+/// The pairs of a load that was accepted.
+fn pairs(bytes: &[u8]) -> Vec<(f32, f32)> {
+    let float = |at: &[u8]| f32::from_be_bytes(at.try_into().unwrap());
+    bytes.chunks(8).map(|pair| (float(&pair[..4]), float(&pair[4..]))).collect()
+}
+
+#[rustfmt::skip]
+const PLACES: [&str; 10] = [
+    "below the first x", "next below the first x", "at the first x", "at an inner x", "next below an inner x",
+    "next above an x", "within a segment", "next below the last x", "at the last x", "above the last x",
+];
+
+/// Where an input lies in a table.
+fn place(table: &[(f32, f32)], x: f32) -> &'static str {
+    let (first, last) = (table[0].0, table[table.len() - 1].0);
+    let inner = &table[1..table.len() - 1];
+    let used = table.iter().rposition(|pair| pair.0 <= x);
+    let overflowed = used
+        .and_then(|used| Some((table[used], *table.get(used + 1)?)))
+        .is_some_and(|((x0, y0), (x1, y1))| !(y0 + (x - x0) * (y1 - y0) / (x1 - x0)).is_finite());
+    match x {
+        x if !x.is_finite() => "not finite",
+        _ if overflowed => "no finite value",
+        x if x == first => "at the first x",
+        x if x == last => "at the last x",
+        x if inner.iter().any(|pair| pair.0 == x) => "at an inner x",
+        x if x.next_up() == first => "next below the first x",
+        x if x.next_up() == last => "next below the last x",
+        x if inner.iter().any(|pair| x.next_up() == pair.0) => "next below an inner x",
+        x if x < first => "below the first x",
+        x if x > last => "above the last x",
+        x if table.iter().any(|pair| x.next_down() == pair.0) => "next above an x",
+        _ => "within a segment",
+    }
 }
 
 /// A head that goes wrong at the third tick with HI standing; the report is the shortest script that shows it.
@@ -126,6 +200,9 @@ fn a_difference_is_shrunk() {
         }
         fn total(&self) -> i64 {
             self.0.total()
+        }
+        fn load(&mut self, bytes: &[u8]) -> Result<(), u8> {
+            self.0.load(bytes)
         }
     }
     let wrong = || -> Box<dyn Head> { Box::new(Wrong(Model::factory(), 0)) };

@@ -2,7 +2,7 @@
 //!
 //! They are written in the call script with a few shorter forms: `50f`, `inf` and `nan` are float bits; `ain X S` and
 //! `tot X S` are ticks with that pair (the other being 0, 0x80), `off` is a tick with the fault flag, `sp X S` and
-//! `rcas X S` are telegrams. After `=>` stands the answer; the words of a read stand there alone, a second word 0 may
+//! `rcas X S` are telegrams, `table X Y X Y ..` loads these floats. After `=>` stands the answer; the words of a read stand there alone, a second word 0 may
 //! be left out. Without `=>` the call must not be refused. `7 * call` makes a call seven times.
 
 use comparison::archive::Archive;
@@ -42,6 +42,10 @@ fn line(call: &str) -> String {
         "off" => "tick 1 0 0x80 0 0x80".into(),
         "sp" => telegram(0),
         "rcas" => telegram(1),
+        "table" => {
+            let bytes = words[1..].iter().flat_map(|word| number(word).to_be_bytes());
+            bytes.fold("load".into(), |line, byte| format!("{line} {byte}"))
+        }
         _ => words.join(" "),
     }
 }
@@ -200,7 +204,7 @@ fn telegrams_are_no_writes() {
 fn lacking_parameters() {
     for (block, parameters) in [
         (0, &[18][..]),
-        (1, &[1, 5, 6, 7, 10, 11, 12, 16, 17, 18, 19, 21, 23, 25, 27]),
+        (1, &[1, 5, 6, 7, 10, 11, 12, 13, 16, 17, 18, 19, 21, 23, 25, 27]),
         (2, &[1, 5, 6, 10, 13, 14, 15, 16]),
         (3, &[1, 5, 6, 11, 23, 24, 25, 36, 37, 38]),
     ] {
@@ -222,7 +226,7 @@ fn defaults() {
     play(
         "read 0 18 => 2457
          read 1 1 => 0; read 1 5 => 8; read 1 6 => 0x80; read 1 7 => 0; read 1 10 => 0f 0x1F
-         read 1 11 => 0f 100f; read 1 12 => 0f 0x42C80000; read 1 16 => 0f; read 1 17 => 1; read 1 18 => 0f
+         read 1 11 => 0f 100f; read 1 12 => 0f 0x42C80000; read 1 13 => 0; read 1 16 => 0f; read 1 17 => 1; read 1 18 => 0f
          read 1 19 => 0.5f; read 1 21 => 0x7F800000; read 1 23 => 0x7F800000; read 1 25 => 0xFF800000
          read 1 27 => 0xFF800000
          read 2 1 => 0; read 2 5 => 8; read 2 6 => 0x80; read 2 10 => 0f 0x1F; read 2 13 => 0; read 2 14 => 0
@@ -285,6 +289,12 @@ fn ranges() {
          write 3 23 65536 0 => refused 5; write 3 24 3 0 => refused 5; write 3 36 1 0 => ok
          write 3 36 2 0 => refused 5; write 0 18 32768 0 => refused 5; write 0 18 0 1 => refused 5
          write 0 18 67993 0 => refused 5",
+    );
+    // LIN_TYPE: 1 with a table alone.
+    play(
+        "write 1 13 0 0 => ok; write 1 13 1 0 => refused 5; write 1 13 2 0 => refused 5; write 1 13 0 1 => refused 5
+         write 1 13 -0f 0 => refused 5; table 0f 0f 1f 10f; write 1 13 1 0 => ok; write 1 13 2 0 => refused 5
+         write 1 13 1 1 => refused 5; write 1 13 0x101 0 => refused 5; read 1 13 => 1; write 1 13 0 0 => ok; read 1 13 => 0",
     );
 }
 
@@ -427,6 +437,184 @@ fn alarms() {
 fn overflowing_spans() {
     play("write 1 11 -3e38f 3e38f; write 1 12 7f 9f; ain 0f 0x80; read 1 10 => 7f 0x80");
     play("write 1 17 2 0; write 1 12 -3e38f 3e38f; ain 0f 0x80; read 1 10 => 0f 0x04; ain 50f 0x80; read 1 10 => 0f 0x04");
+}
+
+// AIN's linearisation table
+
+/// Of the readings' example: 1.9 lies in the second of its segments, 10 + 0.9 × 60 / 3.
+const WEIR: &str = "table 0f 0f 1f 10f 4f 70f 7f 100f; write 1 13 1 0\n";
+
+fn play_weir(script: &str) {
+    play(&[PLAIN, WEIR, script].concat());
+}
+
+/// 16 to 168 bytes; `pairs` rise, whatever their number.
+#[test]
+fn sizes_of_a_table() {
+    let pairs = |count: usize| {
+        let floats: Vec<String> = (0..count).map(|index| format!("{index}f {}f", 3 * index)).collect();
+        floats.join(" ")
+    };
+    for count in [0, 1, 22, 23, 32] {
+        play(&format!("table {} => refused 9; read 1 1 => 0; write 1 13 1 0 => refused 5", pairs(count)));
+    }
+    for count in 2..=21 {
+        // At each x, the last one too, and past it.
+        let ticks: Vec<String> = (0..count).map(|x| format!("ain {x}f 0x80; read 1 10 => {}f 0x80\n", 3 * x)).collect();
+        let past = format!("ain 99f 0x80; read 1 10 => {}f 0x80", 3 * count - 3);
+        play_plain(&format!("table {} => ok; write 1 13 1 0; {}{past}", pairs(count), ticks.concat()));
+    }
+    for length in 0..=256 {
+        let zeros = vec!["0"; length].join(" ");
+        // Whole pairs of zeros are refused by their x.
+        let number = if length % 8 == 0 && (16..=168).contains(&length) { 10 } else { 9 };
+        play(&format!("load {zeros} => refused {number}"));
+    }
+}
+
+#[test]
+fn grounds_of_a_load() {
+    // 4, 9, 10, each also where a later ground is met.
+    play(
+        "write 0 18 0 0; table 0f 0f 1f 10f => refused 4; table 0f 0f 1f => refused 4; table 1f 0f 0f 10f => refused 4
+         load => refused 4; write 1 13 0 0 => refused 4; write 0 18 2457 0; write 1 13 1 0 => refused 5; read 1 1 => 0
+         table nan 0f nan => refused 9; table 1f 0f 0f 10f => refused 10; read 1 1 => 0; table 0f 0f 1f 10f => ok
+         write 1 13 1 0 => ok; read 1 1 => 2",
+    );
+}
+
+#[test]
+fn values_of_a_table() {
+    // The x as numbers, so both zeros are equal; the y in any order.
+    play(
+        "table 0x80000000 0f 0x00000000 1f => refused 10; table 0f 0f 0x80000000 1f => refused 10
+         table -1f 0f -0f 0f 0f 0f 1f 0f => refused 10; table 0f 0f 0f 1f => refused 10
+         table 0f 0f 2f 1f 1f 2f => refused 10; table 0f 0f 2f 1f 1f 2f 3f 3f => refused 10
+         table -1f 0f -2f 0f => refused 10; table -2f 0f -1f 0f => ok; table 0f 5f 1f 5f 2f 3f => ok
+         table 0 0f 1 1f => ok; table -3e38f 3e38f 3e38f -3e38f => ok; table -0f -0f 1f 0f => ok; read 1 1 => 5",
+    );
+    for bad in ["nan", "inf", "-inf", "0x7F800001", "0xFFFFFFFF"] {
+        for table in
+            ["BAD 0f 1f 1f", "0f 0f BAD 1f", "0f BAD 1f 1f", "0f 0f 1f BAD", "0f 0f 1f 1f BAD 2f", "0f 0f 1f 1f 2f BAD"]
+        {
+            play(&format!("table {} => refused 10; read 1 1 => 0", table.replace("BAD", bad)));
+        }
+    }
+}
+
+#[test]
+fn which_pair() {
+    play_weir(
+        "ain 0f 0x80; read 1 10 => 0f 0x80; ain 0.5f 0x80; read 1 10 => 5f 0x80; ain 1f 0x80; read 1 10 => 10f 0x80
+         ain 2.5f 0x80; read 1 10 => 40f 0x80; ain 4f 0x80; read 1 10 => 70f 0x80; ain 5.5f 0x80; read 1 10 => 85f 0x80
+         ain 7f 0x80; read 1 10 => 100f 0x80; ain 7.5f 0x80; read 1 10 => 100f 0x80; ain 3e38f 0x80; read 1 10 => 100f 0x80
+         ain -0f 0x80; read 1 10 => 0f 0x80; ain -1e-45f 0x80; read 1 10 => 0f 0x80; ain -3e38f 0x80; read 1 10 => 0f 0x80",
+    );
+    // Below the first x its y, not 0.
+    play_plain("table 2f 30f 3f 40f; write 1 13 1 0; ain 1.5f 0x80; read 1 10 => 30f 0x80; ain 2.5f 0x80; read 1 10 => 35f 0x80");
+    // At the first x the formula: −0 + 0 = +0, −0 + −0 = −0. Below it the y, −0.
+    play(
+        "write 1 12 -0f 100f; table 0f -0f 1f 10f; write 1 13 1 0; ain 0f 0x80; read 1 10 => 0x00000000 0x80
+         ain -0f 0x80; read 1 10 => 0x80000000 0x80; ain -1f 0x80; read 1 10 => 0x80000000 0x80",
+    );
+    // At an inner x too; at the last one the y itself.
+    play(
+        "write 1 12 -0f 100f; table -1f 5f 0f -0f 1f -0f; write 1 13 1 0; ain 0f 0x80; read 1 10 => 0x00000000 0x80
+         ain 1f 0x80; read 1 10 => 0x80000000 0x80; ain 2f 0x80; read 1 10 => 0x80000000 0x80",
+    );
+}
+
+#[test]
+fn product_then_quotient_then_sum() {
+    play_weir("ain 0x3FF33333 0x80; read 1 10 => 0x41E00000 0x80"); // slope first: 41DFFFFF
+                                                                    // A tie of the sum: 2^24 + 1; and a product that overflows though the quotient would not.
+    play_plain("table 0f 16777216f 2f 16777218f; write 1 13 1 0; ain 1f 0x80; read 1 10 => 16777216f 0x80");
+    play_plain("write 1 17 2 0; table 0f 0f 1e30f 1e30f; write 1 13 1 0; ain 5e29f 0x80; read 1 10 => 0f 0x04");
+    // Subnormals are kept: three quarters of 8. But the product of two of them is 0.
+    play_plain("table 0 0f 4 8f; write 1 13 1 0; ain 0x00000003 0x80; read 1 10 => 6f 0x80");
+    play_plain("table 0 0 3 3; write 1 13 1 0; ain 2 0x80; read 1 10 => 0 0x80; ain 3 0x80; read 1 10 => 3 0x80");
+}
+
+#[test]
+fn not_finite_by_a_table() {
+    // Spans that overflow: 0 × infinity at the first x, infinity after it; the ends hold.
+    play_plain(
+        "write 1 17 2 0; table 0f -3e38f 2f 3e38f; write 1 13 1 0; ain 0f 0x80; read 1 10 => 0f 0x04
+         ain 1f 0x80; read 1 10 => 0f 0x04; ain nan 0x80; read 1 10 => 0f 0x10; ain inf 0x80; read 1 10 => 0f 0x10
+         ain -inf 0x83; read 1 10 => 0f 0x10; ain 2f 0x80; read 1 10 => 3e38f 0x80; ain 1f 0x80; read 1 10 => 3e38f 0x04
+         ain -1f 0x80; read 1 10 => -3e38f 0x80; ain nan 0x80; read 1 10 => -3e38f 0x10
+         ain 1f 0x0D; read 1 10 => -3e38f 0x0D; ain 1f 0xC0; read 1 10 => -3e38f 0x04; ain inf 0x0D; read 1 10 => -3e38f 0x0D",
+    );
+    // A span of x that overflows gives the pair's y.
+    play_plain("table -3e38f 5f 3e38f 6f; write 1 13 1 0; ain 0f 0x80; read 1 10 => 5f 0x80");
+    // Types 0 and 1, and the filter, which keeps the old PV.
+    play_plain(
+        "table 0f -3e38f 2f 3e38f 3f 7f 4f 17f; write 1 13 1 0; ain 1f 0x80; read 1 10 => 0f 0x4C; ain 3f 0x80
+         read 1 10 => 7f 0x80; ain 1f 0x80; read 1 10 => 7f 0x44; write 1 17 0 0; write 1 18 9f 0; ain 1f 0x80
+         read 1 10 => 9f 0x48; write 1 16 0.1f 0; ain 4f 0x80; read 1 10 => 12f 0x80",
+    );
+}
+
+#[test]
+fn inputs_not_usable_are_linearised() {
+    play_weir(
+        "write 1 17 2 0; ain 0x3FF33333 0x0D; read 1 10 => 28f 0x0D; ain 0x3FF33333 0xC3; read 1 10 => 28f 0x04
+         ain 9f 0; read 1 10 => 100f 0; ain nan 0x0D; read 1 10 => 100f 0x0D; ain inf 0xC0; read 1 10 => 100f 0x04",
+    );
+    // By the default scales too.
+    play(&[WEIR, "write 1 17 2 0; ain 0x3FF33333 0x0D; read 1 10 => 28f 0x0D"].concat());
+}
+
+#[test]
+fn linearised_before_scaling() {
+    play(&[WEIR, "write 1 12 0f 50f; ain 4f 0x80; read 1 10 => 35f 0x80"].concat());
+    play(&["write 1 11 70f 170f; write 1 12 5f 6f; ", WEIR, "ain 4f 0x80; read 1 10 => 5f 0x80"].concat());
+    // TOT's rate is not, nor an operator's value.
+    play_weir("tick 0 4f 0x80 4f 0x80; total => total 400; write 1 5 0x10 0; write 1 10 4f 0x80; ain 4f 0x80; read 1 10 => 4f 0x80");
+    // Alarms go by the linearised OUT.
+    play_weir("write 1 23 70f 0; ain 3.5f 0x80; read 1 7 => 0; ain 4f 0x80; read 1 7 => 2; read 1 10 => 70f 0x8A");
+}
+
+#[test]
+fn lin_type() {
+    play("write 1 13 1 0 => refused 5; table 0f 0f 1f 10f; read 1 13 => 0; write 1 13 1 0 => ok; read 1 13 => 1");
+    // Without it a table does nothing; 0 and 1 again need no new load.
+    play_plain(
+        "table 0f 0f 1f 10f; ain 0.5f 0x80; read 1 10 => 0.5f 0x80; write 1 13 1 0; ain 0.5f 0x80; read 1 10 => 5f 0x80
+         write 1 13 0 0; ain 0.5f 0x80; read 1 10 => 0.5f 0x80; write 1 13 1 0 => ok; ain 0.5f 0x80; read 1 10 => 5f 0x80",
+    );
+    // Fresh again.
+    play_weir("factory; read 1 13 => 0; write 1 13 1 0 => refused 5; read 1 1 => 0");
+}
+
+#[test]
+fn loads() {
+    // One each in AIN's ST_REV, an equal table too; a refused one counts for nothing.
+    play("table 0f 0f 1f 10f; table 0f 0f 1f 10f; read 1 1 => 2; read 2 1 => 0; read 3 1 => 0");
+    play(&format!("{WEIR} read 1 1 => 2; load 1 => refused 9; table 1f 0f 1f 0f => refused 10; read 1 1 => 2"));
+    play("65535 * table 0f 0f 1f 10f; read 1 1 => 65535; table 0f 0f 1f 10f; read 1 1 => 0; write 1 17 1 0; read 1 1 => 1");
+    // A new table acts at the next tick, a shorter one whole; a refused one leaves the old.
+    play_weir(
+        "ain 4f 0x80; read 1 10 => 70f 0x80; table 0f 0f 8f 16f; read 1 10 => 70f 0x80; ain 4f 0x80; read 1 10 => 8f 0x80
+         table 0f 0f 0f 1f => refused 10; load 0 => refused 9; ain 4f 0x80; read 1 10 => 8f 0x80; ain 9f 0x80
+         read 1 10 => 16f 0x80; write 0 18 0 0; table 0f 1f 1f 1f => refused 4; ain 4f 0x80; read 1 10 => 8f 0x80",
+    );
+    // Filter, last usable value and alarms stay.
+    play_weir("write 1 16 0.1f 0; ain 1f 0x80; table 0f 20f 1f 30f; ain 1f 0x80; read 1 10 => 20f 0x80");
+    play_weir("ain 4f 0x80; table 0f 20f 1f 30f; ain 4f 0; read 1 10 => 70f 0x44");
+    play_weir("write 1 23 70f 0; ain 4f 0x80; read 1 7 => 2; table 0f 20f 1f 30f; read 1 7 => 2; read 1 10 => 70f 0x8A; ain 4f 0x80; read 1 7 => 0");
+    // In any mode.
+    play_weir("write 1 5 0x80 0; table 0f 20f 1f 30f => ok; off; table 0f 0f 1f 8f => ok; write 1 5 8 0; ain 0.5f 0x80; read 1 10 => 4f 0x80");
+}
+
+#[test]
+fn a_warm_start_keeps_the_table() {
+    play_weir(
+        "ain 4f 0x80; warm; read 1 13 => 1; read 1 1 => 4; ain 4f 0x80; read 1 10 => 70f 0x80; write 1 13 0 0; warm
+         write 1 13 1 0 => ok; ain 4f 0x80; read 1 10 => 70f 0x80",
+    );
+    // Also one that was never used.
+    play_plain("table 0f 0f 1f 10f; warm; write 1 13 1 0 => ok; ain 0.5f 0x80; read 1 10 => 5f 0x80");
 }
 
 // TOT
@@ -588,6 +776,11 @@ fn refusals() {
     );
     play("write 1 10 nan 0 => refused 5; write 1 10 0f 256 => refused 5; write 2 10 2e9f 0 => refused 5; write 3 37 inf 0 => refused 5");
     play("telegram 2 1 2 3 4 => refused 8; telegram 0 1 2 3 4 5 6 => refused 7; telegram 1 => refused 7; telegram 255 => refused 8");
+    play(
+        "load 1 2 3 => refused 9; table 1f 0f 0f 0f => refused 10; write 1 13 1 0 => refused 5; write 0 18 0 0
+         table 1f 0f 0f 0f => refused 4; load => refused 4; write 1 13 1 0 => refused 4; write 1 13 9 9 => refused 4
+         write 2 13 0 0 => refused 4; write 3 13 0 0 => refused 2; write 0 13 0 0 => refused 2",
+    );
     // 6 goes by the target.
     play("write 1 5 0x10 0; read 1 6 => 0x80; write 1 10 1f 0 => ok; ain 0f 0x80; write 1 5 8 0; read 1 6 => 0x10; write 1 10 1f 0 => refused 6");
 }
@@ -643,6 +836,11 @@ fn script_lines() {
         "telegram",
         "telegram 256",
         "telegram 0 256",
+        "load 256",
+        "load -1",
+        "load x",
+        "loads 1",
+        "Load 1",
         "write 1 5 8",
         "write 1 5 8 0 0",
         "write 1 5 0x100000000 0",
@@ -656,6 +854,16 @@ fn script_lines() {
     assert_eq!(
         replayed(format!("telegram 0{}\ntelegram 0{}", " 1".repeat(64), " 1".repeat(65)).as_bytes()),
         "refused 7\nerror\n"
+    );
+    assert_eq!(
+        replayed(format!("load\nload  0x01 \nload{}\nload{}", " 1".repeat(256), " 1".repeat(257)).as_bytes()),
+        "refused 9\nrefused 9\nrefused 9\nerror\n"
+    );
+    assert_eq!(
+        replayed(
+            b"load 0 0 0 0 0 0 0 0 63 0x80 0 0 0x41 32 0 00\nwrite 1 13 1 0\ntick 0 0x3F000000 0x80 0 0\nread 1 10"
+        ),
+        "ok\nok\nposition 0x00000000\nwords 0x40A00000 0x00000080\n"
     );
     // 4,096 bytes are a line, one more is none, with or without the end.
     let padded = |length: usize| format!("total{}", " ".repeat(length - 5));
