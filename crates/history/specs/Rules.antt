@@ -1,6 +1,6 @@
--- The history rules of document 01, with request 1 of document 02: what the head answers, from the accepted events alone (R2): the arguments of calls, and OUT of AIN and AO as read
--- after each tick. Every memory and every choice is said here. What is cited of other crates, arithmetic, encodings and the table's allowed words, is listed
--- in tests/cited and pinned in Cited.
+-- The history rules of document 01, with request 1 of document 02: what the head answers, from the accepted events alone (R2): the arguments of calls, and
+-- OUT of AIN and AO as read after each tick. Every memory and every choice is said here. What is cited of other crates, arithmetic, encodings and the
+-- table's allowed words, is listed in tests/cited and pinned in Cited.
 -- A letter and number before a colon is a sentence of the paper, as docs/TRACE.md counts them. Assumes nothing.
 use Prim.Native.Nat.{ℕ, _+_, _*_, _%_}
 use mathlib.Core.Bool.{Bool, true, false, not, _&&_, _||_, cond}
@@ -71,8 +71,8 @@ pair bits status = record { bits = bits; status = status }
 abbrev pub ofBlock : {A : Type 0} → A → A → A → A → A → ℕ → A
 ofBlock physical ain tot ao other block = cond (eqb block 0) physical (cond (eqb block 1) ain (cond (eqb block 2) tot (cond (eqb block 3) ao other)))
 
--- P3, P10 to P13e, Q1.3: the static parameters of AIN (TARGET_MODE, both scales, LIN_TYPE, PV_FTIME, type and value of the fail-safe, ALARM_HYS, limits), of TOT
--- (TARGET_MODE, FAIL_TOT, PRESET_TOT) and of AO (TARGET_MODE, PV_SCALE, time, type and value of the fail-safe, INCREASE_CLOSE, OUT_SCALE)
+-- P3, P10 to P13e, Q1.3: the static parameters of AIN (TARGET_MODE, both scales, LIN_TYPE, PV_FTIME, type and value of the fail-safe, ALARM_HYS, four
+-- limits), of TOT (TARGET_MODE, FAIL_TOT, PRESET_TOT) and of AO (TARGET_MODE, PV_SCALE, time, type and value of the fail-safe, INCREASE_CLOSE, OUT_SCALE)
 unfoldable pub statics : ℕ → List ℕ
 statics = ofBlock [] (5 ∷ 11 ∷ 12 ∷ 13 ∷ 16 ∷ 17 ∷ 18 ∷ 19 ∷ 21 ∷ 23 ∷ 25 ∷ 27 ∷ []) (5 ∷ 15 ∷ 16 ∷ []) (5 ∷ 11 ∷ 23 ∷ 24 ∷ 25 ∷ 36 ∷ 38 ∷ []) []
 
@@ -233,7 +233,8 @@ abbrev pub lacksTable : History Event → ℕ → ℕ → ℕ → Bool
 lacksTable h block number a = eqb block 1 && eqb number 13 && eqb a 1 && not (tabled h)
 
 -- F2 to F8: the grounds on which a write is refused, the first that is met: there is no such block (1); it has no such parameter (2); that one is read only
--- (3); the device is locked and it isn't the lock (4); its words are not allowed, or it lacks a table (5); it is an output and the block's target isn't Man (6)
+-- (3); the device is locked and it isn't the lock (4); its words are not allowed, or it lacks a table (5); it is an output and the block's target isn't
+-- Man (6)
 unfoldable pub toWrite : History Event → ℕ → ℕ → ℕ → ℕ → Answer
 toWrite h block number a b =
     cond (ltb 3 block) (refused 1)

@@ -127,7 +127,6 @@ pub struct Lent {
     pub there: bool,
 }
 
-
 // The bytes lent by the call at a place, their length standing a head after it.
 fn lent_at(s: &[u8], at: usize, head: usize) -> Lent
     requires { ⌜ (at < length (now s)) × (head < 3) ⌝ }
@@ -136,24 +135,15 @@ fn lent_at(s: &[u8], at: usize, head: usize) -> Lent
 {
     let left = s.len() - at;
     if left < head + 8 {
-        return Lent {
-            n: 0,
-            there: false,
-        };
+        return Lent { n: 0, there: false };
     }
     let high = word_at(s, at + head);
     let low = word_at(s, at + head + 4);
     let n = high as usize * 0x1_0000_0000 + low as usize;
     if left - (head + 8) < n {
-        return Lent {
-            n: 0,
-            there: false,
-        };
+        return Lent { n: 0, there: false };
     }
-    Lent {
-        n: n,
-        there: true,
-    }
+    Lent { n: n, there: true }
 }
 
 fn telegram_at(s: &[u8], at: usize) -> Found
