@@ -32,9 +32,9 @@ extern "C" {
 #endif
 
 /* Version of this header: major, minor and patch in a byte each. serkoviu_version gives that of the archive. */
-#define SERKOVIU_VERSION 0x00010000
+#define SERKOVIU_VERSION 0x00010100
 /* The form of a packed device; it stands in its first four bytes. */
-#define SERKOVIU_LAYOUT_VERSION 1
+#define SERKOVIU_LAYOUT_VERSION 2
 
 /* Blocks. */
 #define SERKOVIU_PHYSICAL 0
@@ -53,6 +53,7 @@ extern "C" {
 #define SERKOVIU_AIN_OUT 10
 #define SERKOVIU_AIN_PV_SCALE 11
 #define SERKOVIU_AIN_OUT_SCALE 12
+#define SERKOVIU_AIN_LIN_TYPE 13
 #define SERKOVIU_AIN_PV_FTIME 16
 #define SERKOVIU_AIN_FSAFE_TYPE 17
 #define SERKOVIU_AIN_FSAFE_VALUE 18
@@ -93,6 +94,11 @@ extern "C" {
 #define SERKOVIU_MODE_MAN 0x10
 #define SERKOVIU_MODE_AUTO 0x08
 #define SERKOVIU_MODE_RCAS 0x02
+
+/* Words of LIN_TYPE: the measured value as it is, or by the table that serkoviu_load has loaded; refused as
+ * SERKOVIU_WORDS_NOT_ALLOWED before one is loaded. */
+#define SERKOVIU_LIN_TYPE_NONE 0
+#define SERKOVIU_LIN_TYPE_TABLE 1
 
 /* Words of FSAFE_TYPE: FSAFE_VALUE, the last usable value; then in AIN the value as it comes, and in AO the drive order
  * Safe. */
@@ -168,6 +174,9 @@ extern "C" {
 #define SERKOVIU_NOT_MAN 6
 #define SERKOVIU_WRONG_LENGTH 7
 #define SERKOVIU_NO_SUCH_INPUT 8
+/* Of serkoviu_load alone. */
+#define SERKOVIU_NOT_WHOLE_PAIRS 9
+#define SERKOVIU_NOT_RISING 10
 /* Of serkoviu_unpack alone. */
 #define SERKOVIU_NOT_A_DEVICE 255
 
@@ -183,7 +192,12 @@ extern "C" {
 /* Lengths of a telegram, of a bus image and of a packed device. */
 #define SERKOVIU_TELEGRAM_BYTES 5
 #define SERKOVIU_IMAGE_BYTES 15
-#define SERKOVIU_PACKED_BYTES 264
+#define SERKOVIU_PACKED_BYTES 440
+
+/* A linearisation table: the bytes of a pair, and how many pairs there are. */
+#define SERKOVIU_TABLE_PAIR_BYTES 8
+#define SERKOVIU_TABLE_LEAST_PAIRS 2
+#define SERKOVIU_TABLE_MOST_PAIRS 21
 
 /* A value by the 32 bits of its float, and its status. */
 typedef struct serkoviu_pair {
@@ -208,6 +222,7 @@ typedef struct serkoviu_ain_settings {
     uint32_t target;
     serkoviu_scale pv_scale;
     serkoviu_scale out_scale;
+    uint32_t lin_type;
     float pv_ftime;
     uint32_t fsafe_type;
     float fsafe_value;
@@ -235,6 +250,18 @@ typedef struct serkoviu_ain_state {
     serkoviu_pair operator_pair;
     serkoviu_alarms alarms;
 } serkoviu_ain_state;
+
+/* A pair of a linearisation table: a measured value, and what it becomes. */
+typedef struct serkoviu_point {
+    float x;
+    float y;
+} serkoviu_point;
+
+/* A linearisation table: how many pairs it has, 0 before the first load, and the pairs; zeros after the last. */
+typedef struct serkoviu_table {
+    uint32_t count;
+    serkoviu_point points[21];
+} serkoviu_table;
 
 /* TOT's stored parameters. */
 typedef struct serkoviu_tot_settings {
@@ -286,6 +313,7 @@ typedef struct serkoviu_ain_block {
     serkoviu_ain_settings settings;
     serkoviu_ain_state state;
     uint16_t st_rev;
+    serkoviu_table table;
 } serkoviu_ain_block;
 
 typedef struct serkoviu_tot_block {
@@ -335,6 +363,12 @@ uint8_t serkoviu_telegram(serkoviu_device *device, uint8_t input, const uint8_t 
  * SERKOVIU_NO_SUCH_BLOCK to SERKOVIU_NOT_MAN, tested in the order of their numbers. */
 uint8_t serkoviu_write(serkoviu_device *device, uint8_t block, uint8_t parameter, uint32_t first, uint32_t second);
 
+/* Loads AIN's linearisation table, SERKOVIU_TABLE_LEAST_PAIRS to SERKOVIU_TABLE_MOST_PAIRS pairs of
+ * SERKOVIU_TABLE_PAIR_BYTES: the floats x and y, each from its highest byte on. It counts as one static write to AIN and
+ * acts from the next tick on where LIN_TYPE is SERKOVIU_LIN_TYPE_TABLE. Refused: SERKOVIU_LOCKED, then
+ * SERKOVIU_NOT_WHOLE_PAIRS, then SERKOVIU_NOT_RISING where a number is not finite or an x not above the one before. */
+uint8_t serkoviu_load(serkoviu_device *device, const uint8_t *bytes, size_t length);
+
 /* A warm start; it is never refused. */
 uint8_t serkoviu_warm_start(serkoviu_device *device);
 
@@ -381,18 +415,19 @@ SERKOVIU_FIELD(serkoviu_scale, high, 4);
 SERKOVIU_LAYOUT(serkoviu_kept, 8, 4);
 SERKOVIU_FIELD(serkoviu_kept, some, 0);
 SERKOVIU_FIELD(serkoviu_kept, value, 4);
-SERKOVIU_LAYOUT(serkoviu_ain_settings, 52, 4);
+SERKOVIU_LAYOUT(serkoviu_ain_settings, 56, 4);
 SERKOVIU_FIELD(serkoviu_ain_settings, target, 0);
 SERKOVIU_FIELD(serkoviu_ain_settings, pv_scale, 4);
 SERKOVIU_FIELD(serkoviu_ain_settings, out_scale, 12);
-SERKOVIU_FIELD(serkoviu_ain_settings, pv_ftime, 20);
-SERKOVIU_FIELD(serkoviu_ain_settings, fsafe_type, 24);
-SERKOVIU_FIELD(serkoviu_ain_settings, fsafe_value, 28);
-SERKOVIU_FIELD(serkoviu_ain_settings, alarm_hys, 32);
-SERKOVIU_FIELD(serkoviu_ain_settings, hi_hi_lim, 36);
-SERKOVIU_FIELD(serkoviu_ain_settings, hi_lim, 40);
-SERKOVIU_FIELD(serkoviu_ain_settings, lo_lim, 44);
-SERKOVIU_FIELD(serkoviu_ain_settings, lo_lo_lim, 48);
+SERKOVIU_FIELD(serkoviu_ain_settings, lin_type, 20);
+SERKOVIU_FIELD(serkoviu_ain_settings, pv_ftime, 24);
+SERKOVIU_FIELD(serkoviu_ain_settings, fsafe_type, 28);
+SERKOVIU_FIELD(serkoviu_ain_settings, fsafe_value, 32);
+SERKOVIU_FIELD(serkoviu_ain_settings, alarm_hys, 36);
+SERKOVIU_FIELD(serkoviu_ain_settings, hi_hi_lim, 40);
+SERKOVIU_FIELD(serkoviu_ain_settings, hi_lim, 44);
+SERKOVIU_FIELD(serkoviu_ain_settings, lo_lim, 48);
+SERKOVIU_FIELD(serkoviu_ain_settings, lo_lo_lim, 52);
 SERKOVIU_LAYOUT(serkoviu_alarms, 4, 1);
 SERKOVIU_FIELD(serkoviu_alarms, hi_hi, 0);
 SERKOVIU_FIELD(serkoviu_alarms, hi, 1);
@@ -405,6 +440,12 @@ SERKOVIU_FIELD(serkoviu_ain_state, filter, 12);
 SERKOVIU_FIELD(serkoviu_ain_state, last, 20);
 SERKOVIU_FIELD(serkoviu_ain_state, operator_pair, 28);
 SERKOVIU_FIELD(serkoviu_ain_state, alarms, 36);
+SERKOVIU_LAYOUT(serkoviu_point, 8, 4);
+SERKOVIU_FIELD(serkoviu_point, x, 0);
+SERKOVIU_FIELD(serkoviu_point, y, 4);
+SERKOVIU_LAYOUT(serkoviu_table, 172, 4);
+SERKOVIU_FIELD(serkoviu_table, count, 0);
+SERKOVIU_FIELD(serkoviu_table, points, 4);
 SERKOVIU_LAYOUT(serkoviu_tot_settings, 20, 4);
 SERKOVIU_FIELD(serkoviu_tot_settings, target, 0);
 SERKOVIU_FIELD(serkoviu_tot_settings, set_tot, 4);
@@ -436,10 +477,11 @@ SERKOVIU_FIELD(serkoviu_ao_state, mode, 8);
 SERKOVIU_FIELD(serkoviu_ao_state, operator_pair, 12);
 SERKOVIU_FIELD(serkoviu_ao_state, sp, 20);
 SERKOVIU_FIELD(serkoviu_ao_state, rcas_in, 36);
-SERKOVIU_LAYOUT(serkoviu_ain_block, 96, 4);
+SERKOVIU_LAYOUT(serkoviu_ain_block, 272, 4);
 SERKOVIU_FIELD(serkoviu_ain_block, settings, 0);
-SERKOVIU_FIELD(serkoviu_ain_block, state, 52);
-SERKOVIU_FIELD(serkoviu_ain_block, st_rev, 92);
+SERKOVIU_FIELD(serkoviu_ain_block, state, 56);
+SERKOVIU_FIELD(serkoviu_ain_block, st_rev, 96);
+SERKOVIU_FIELD(serkoviu_ain_block, table, 100);
 SERKOVIU_LAYOUT(serkoviu_tot_block, 64, 8);
 SERKOVIU_FIELD(serkoviu_tot_block, settings, 0);
 SERKOVIU_FIELD(serkoviu_tot_block, state, 24);
@@ -448,11 +490,11 @@ SERKOVIU_LAYOUT(serkoviu_ao_block, 92, 4);
 SERKOVIU_FIELD(serkoviu_ao_block, settings, 0);
 SERKOVIU_FIELD(serkoviu_ao_block, state, 36);
 SERKOVIU_FIELD(serkoviu_ao_block, st_rev, 88);
-SERKOVIU_LAYOUT(serkoviu_device, 264, 8);
+SERKOVIU_LAYOUT(serkoviu_device, 440, 8);
 SERKOVIU_FIELD(serkoviu_device, write_locking, 0);
 SERKOVIU_FIELD(serkoviu_device, ain, 4);
-SERKOVIU_FIELD(serkoviu_device, tot, 104);
-SERKOVIU_FIELD(serkoviu_device, ao, 168);
+SERKOVIU_FIELD(serkoviu_device, tot, 280);
+SERKOVIU_FIELD(serkoviu_device, ao, 344);
 SERKOVIU_LAYOUT(serkoviu_order, 8, 4);
 SERKOVIU_FIELD(serkoviu_order, kind, 0);
 SERKOVIU_FIELD(serkoviu_order, value, 4);

@@ -44,6 +44,21 @@ static void send_setpoint(serkoviu_device *device, float value)
     }
 }
 
+/* AIN's table: the weir's discharge over the stage, both as currents of 4 to 20 mA. x, then y, highest byte first. */
+static void load_table(serkoviu_device *device)
+{
+    const float pairs[][2] = {{4.0f, 4.0f}, {12.0f, 6.0f}, {20.0f, 20.0f}};
+    uint8_t bytes[sizeof pairs / sizeof pairs[0] * SERKOVIU_TABLE_PAIR_BYTES];
+    for (size_t i = 0; i < sizeof bytes; i++) {
+        uint32_t bits = bits_of(pairs[i / 8][i / 4 % 2]);
+        bytes[i] = (uint8_t)(bits >> (24 - 8 * (i % 4)));
+    }
+    uint8_t answer = serkoviu_load(device, bytes, sizeof bytes);
+    if (answer != SERKOVIU_ACCEPTED) {
+        printf("load: refused %u\n", answer);
+    }
+}
+
 static void print_value(const serkoviu_device *device, const char *name, uint8_t block, uint8_t parameter)
 {
     serkoviu_reading reading = serkoviu_read(device, block, parameter);
@@ -58,6 +73,9 @@ int main(void)
     }
     serkoviu_device device = serkoviu_factory();
     set(&device, SERKOVIU_AIN, SERKOVIU_AIN_PV_SCALE, bits_of(4.0f), bits_of(20.0f)); /* 4 to 20 mA */
+    set(&device, SERKOVIU_AIN, SERKOVIU_AIN_LIN_TYPE, SERKOVIU_LIN_TYPE_TABLE, 0); /* there is no table yet */
+    load_table(&device);
+    set(&device, SERKOVIU_AIN, SERKOVIU_AIN_LIN_TYPE, SERKOVIU_LIN_TYPE_TABLE, 0);
     set(&device, SERKOVIU_AIN, SERKOVIU_AIN_HI_LIM, bits_of(80.0f), 0);
     set(&device, SERKOVIU_AO, SERKOVIU_AO_FSAFE_TIME, 20, 0); /* 2 s */
     set(&device, SERKOVIU_AO, SERKOVIU_AO_FSAFE_TYPE, SERKOVIU_FSAFE_TYPE_VALUE, 0);

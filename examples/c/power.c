@@ -113,6 +113,16 @@ static void send_setpoint(serkoviu_device *device, float value)
     serkoviu_telegram(device, SERKOVIU_SP, bytes, sizeof bytes);
 }
 
+/* AIN by the table (0, 0) (100, 50), which makes 25 of the stage 50: two static writes. */
+static void use_table(serkoviu_device *device)
+{
+    uint8_t bytes[2 * SERKOVIU_TABLE_PAIR_BYTES] = {0};
+    put_word(bytes + SERKOVIU_TABLE_PAIR_BYTES, bits_of(100.0f));
+    put_word(bytes + SERKOVIU_TABLE_PAIR_BYTES + 4, bits_of(50.0f));
+    serkoviu_load(device, bytes, sizeof bytes);
+    serkoviu_write(device, SERKOVIU_AIN, SERKOVIU_AIN_LIN_TYPE, SERKOVIU_LIN_TYPE_TABLE, 0);
+}
+
 /* Ticks with stage 50 and rate 1, both Good: each adds 1 x 100 thousandths to the total. */
 static void run(serkoviu_device *device, int ticks)
 {
@@ -125,12 +135,13 @@ static void run(serkoviu_device *device, int ticks)
 
 static void print_state(const char *when, const serkoviu_device *device)
 {
+    serkoviu_reading stage = serkoviu_read(device, SERKOVIU_AIN, SERKOVIU_AIN_OUT);
     serkoviu_reading out = serkoviu_read(device, SERKOVIU_AO, SERKOVIU_AO_OUT);
     serkoviu_reading limit = serkoviu_read(device, SERKOVIU_AIN, SERKOVIU_AIN_HI_LIM);
     serkoviu_reading revision = serkoviu_read(device, SERKOVIU_AIN, SERKOVIU_AIN_ST_REV);
-    printf("%s: total %" PRId64 ", AO %g with 0x%02" PRIX32 ", HI_LIM %g, ST_REV %" PRIu32 "\n", when,
-           serkoviu_total(device), (double)float_of(out.first), out.second, (double)float_of(limit.first),
-           revision.first);
+    printf("%s: total %" PRId64 ", AIN %g, AO %g with 0x%02" PRIX32 ", HI_LIM %g, ST_REV %" PRIu32 "\n", when,
+           serkoviu_total(device), (double)float_of(stage.first), (double)float_of(out.first), out.second,
+           (double)float_of(limit.first), revision.first);
 }
 
 int main(void)
@@ -143,8 +154,9 @@ int main(void)
     printf("restored from slot %d\n", restore(&device));
     print_state("first start", &device);
 
-    /* A static write, saved at once: slot 0, counter 1. FSAFE_TIME 100 lets AO follow a setpoint for 10 s. */
+    /* Three static writes to AIN, saved at once: slot 0, counter 1. FSAFE_TIME 100 lets AO follow a setpoint for 10 s. */
     serkoviu_write(&device, SERKOVIU_AIN, SERKOVIU_AIN_HI_LIM, bits_of(80.0f), 0);
+    use_table(&device);
     serkoviu_write(&device, SERKOVIU_AO, SERKOVIU_AO_FSAFE_TIME, 100, 0);
     printf("saved in slot %d\n", save(&device, SLOT_BYTES));
 
@@ -161,7 +173,7 @@ int main(void)
     printf("cut off while saving in slot %d\n", save(&device, 100));
 
     /* Slot 0 is torn, slot 1 whole. What came after the second save is lost: 500 of the total, and AO's value is the 75
-     * of that save. The write is kept. A warm start makes the status 0x1F. */
+     * of that save. The writes are kept, and the table with them. A warm start makes the status 0x1F. */
     printf("restored from slot %d\n", restore(&device));
     print_state("warm started", &device);
 

@@ -157,6 +157,63 @@ static void ain(void)
     CHECK((SERKOVIU_STATUS_BAD_OUT_OF_SERVICE & SERKOVIU_LIMITS_MASK) == SERKOVIU_LIMITS_CONSTANT);
 }
 
+/* A pair of a table as its bytes. */
+static void put_pair(uint8_t *at, float x, float y)
+{
+    uint32_t words[] = {bits_of(x), bits_of(y)};
+    for (unsigned i = 0; i < SERKOVIU_TABLE_PAIR_BYTES; i++) {
+        at[i] = (uint8_t)(words[i / 4] >> (24 - 8 * (i % 4)));
+    }
+}
+
+static void table(void)
+{
+    /* As many pairs as the header says, and one less or more. */
+    serkoviu_device d = serkoviu_factory();
+    uint8_t bytes[(SERKOVIU_TABLE_MOST_PAIRS + 1) * SERKOVIU_TABLE_PAIR_BYTES];
+    for (unsigned i = 0; i <= SERKOVIU_TABLE_MOST_PAIRS; i++) {
+        put_pair(bytes + i * SERKOVIU_TABLE_PAIR_BYTES, (float)i, 2.0f * (float)i);
+    }
+    const struct {
+        unsigned pairs;
+        uint8_t answer;
+    } loads[] = {
+        {SERKOVIU_TABLE_LEAST_PAIRS - 1, SERKOVIU_NOT_WHOLE_PAIRS},
+        {SERKOVIU_TABLE_LEAST_PAIRS, SERKOVIU_ACCEPTED},
+        {SERKOVIU_TABLE_MOST_PAIRS, SERKOVIU_ACCEPTED},
+        {SERKOVIU_TABLE_MOST_PAIRS + 1, SERKOVIU_NOT_WHOLE_PAIRS},
+    };
+    for (unsigned i = 0; i < 4; i++) {
+        CHECK(serkoviu_load(&d, bytes, loads[i].pairs * SERKOVIU_TABLE_PAIR_BYTES) == loads[i].answer);
+    }
+    CHECK(serkoviu_load(&d, bytes, 3 * SERKOVIU_TABLE_PAIR_BYTES - 1) == SERKOVIU_NOT_WHOLE_PAIRS);
+    CHECK(reads(&d, SERKOVIU_AIN, SERKOVIU_AIN_ST_REV, 2, 0));
+    put_pair(bytes, 1.0f, 0.0f);
+    CHECK(serkoviu_load(&d, bytes, 2 * SERKOVIU_TABLE_PAIR_BYTES) == SERKOVIU_NOT_RISING);
+
+    /* 0 to 50 becomes 0 to 25, 50 to 100 becomes 25 to 100; both scales leave a value as it is. */
+    put_pair(bytes, 0.0f, 0.0f);
+    put_pair(bytes + SERKOVIU_TABLE_PAIR_BYTES, 50.0f, 25.0f);
+    put_pair(bytes + 2 * SERKOVIU_TABLE_PAIR_BYTES, 100.0f, 100.0f);
+    d = serkoviu_factory();
+    CHECK(serkoviu_write(&d, SERKOVIU_AIN, SERKOVIU_AIN_LIN_TYPE, SERKOVIU_LIN_TYPE_TABLE, 0) == SERKOVIU_WORDS_NOT_ALLOWED);
+    d = with(d, SERKOVIU_PHYSICAL, SERKOVIU_PHYSICAL_WRITE_LOCKING, SERKOVIU_WRITE_LOCKING_ON);
+    CHECK(serkoviu_load(&d, bytes, 3 * SERKOVIU_TABLE_PAIR_BYTES) == SERKOVIU_LOCKED);
+    d = with(d, SERKOVIU_PHYSICAL, SERKOVIU_PHYSICAL_WRITE_LOCKING, SERKOVIU_WRITE_LOCKING_OFF);
+    CHECK(serkoviu_load(&d, bytes, 3 * SERKOVIU_TABLE_PAIR_BYTES) == SERKOVIU_ACCEPTED);
+    good_tick(&d);
+    CHECK(ain_is(&d, 50.0f, SERKOVIU_STATUS_GOOD));
+    d = with(d, SERKOVIU_AIN, SERKOVIU_AIN_LIN_TYPE, SERKOVIU_LIN_TYPE_TABLE);
+    good_tick(&d);
+    CHECK(ain_is(&d, 25.0f, SERKOVIU_STATUS_GOOD));
+    CHECK(serkoviu_warm_start(&d) == SERKOVIU_ACCEPTED);
+    tick(&d, 75.0f, SERKOVIU_STATUS_GOOD, 0.0f, SERKOVIU_STATUS_GOOD);
+    CHECK(ain_is(&d, 62.5f, SERKOVIU_STATUS_GOOD));
+    d = with(d, SERKOVIU_AIN, SERKOVIU_AIN_LIN_TYPE, SERKOVIU_LIN_TYPE_NONE);
+    good_tick(&d);
+    CHECK(ain_is(&d, 50.0f, SERKOVIU_STATUS_GOOD));
+}
+
 /* The total after a tick of this rate and status on a device whose total is 1. */
 static float total_after(serkoviu_device device, float rate, uint8_t status, uint32_t *given)
 {
@@ -292,6 +349,7 @@ int main(void)
 {
     modes();
     ain();
+    table();
     tot();
     ao();
     answers();

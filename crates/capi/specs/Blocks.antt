@@ -14,7 +14,12 @@ use Rattle.capi.specs.declared.AoTicked.{AoTicked}
 use Rattle.capi.specs.Numbers.{orderNumbers}
 
 unfoldable pub ainTicked : AinBlock → Bool → Pair → AinBlock
-ainTicked b fault pair = record { settings = b .settings; state = ainTick (b .settings) (b .state) fault (pair .bits) (pair .status); «st_rev» = b .«st_rev» }
+ainTicked b fault pair = record {
+  settings = b .settings;
+  state = ainTick (b .settings) (b .table) (b .state) fault (pair .bits) (pair .status);
+  «st_rev» = b .«st_rev»;
+  table = b .table;
+}
 
 unfoldable pub totTicked : TotBlock → Bool → Pair → TotBlock
 totTicked b fault pair = record { settings = b .settings; state = totTick (b .settings) (b .state) fault (pair .bits) (pair .status); «st_rev» = b .«st_rev» }

@@ -8,11 +8,12 @@ ghost use Rattle.wire.specs.Refusal.{answerNumber};
 ghost use Rattle.wire.specs.Image.{imageAnswer, imageBytes};
 ghost use Rattle.device.specs.Factory.{factoryDevice};
 ghost use Rattle.device.specs.Read.{readOf};
-ghost use Rattle.device.specs.Calls.{writeOf, tickOf, telegramOf, warmStarted};
+ghost use Rattle.device.specs.Calls.{writeOf, tickOf, telegramOf, loadOf, warmStarted};
 ghost use Rattle.packing.specs.Packed.{packedOf, packAnswer, packBytes, accepted, unpackedOf};
 ghost use Rattle.capi.specs.Blocks.{ainTicked, totTicked, aoTicked};
 ghost use Rattle.capi.specs.Numbers.{version, orderNumbers, answeredNumbers, readingNumbers, warmedNumbers, unpackedNumbers};
 use device::AinBlock;
+use device::Answered;
 use device::AoBlock;
 use device::Device;
 use device::TotBlock;
@@ -66,7 +67,7 @@ fn order_numbers(order: ao::Order) -> OrderNumbers
 pub extern "C" fn serkoviu_version() -> u32
     ensures { λ r. ⌜ r ≡ version ⌝ }
 {
-    0x01_00_00
+    0x01_01_00
 }
 
 #[no_mangle]
@@ -79,7 +80,7 @@ pub extern "C" fn serkoviu_factory() -> Device
 fn ain_ticked(b: AinBlock, fault: bool, pair: Pair) -> AinBlock
     ensures { λ r. ⌜ r ≡ ainTicked b fault pair ⌝ }
 {
-    let state = ain::tick(b.settings, b.state, fault, pair.bits, pair.status);
+    let state = ain::tick(b.settings, b.table, b.state, fault, pair.bits, pair.status);
     let mut next = b;
     next.state = state;
     next
@@ -120,17 +121,23 @@ pub extern "C" fn serkoviu_tick(d: &mut Device, fault: bool, ain: Pair, tot: Pai
     ticked.order
 }
 
-fn taken(d: Device, input: u8, bytes: &[u8]) -> AnsweredNumbers
-    ensures { λ r. ⌜ r ≡ answeredNumbers (telegramOf d input (now (bytes .entry))) ⌝ }
+fn numbered(a: Answered) -> AnsweredNumbers
+    ensures { λ r. ⌜ r ≡ answeredNumbers a ⌝ }
 {
-    let taken = device::telegram(d, input, bytes);
-    let next = taken.device;
-    let answer = taken.answer;
+    let next = a.device;
+    let answer = a.answer;
     let number = wire::answer_number(answer);
     AnsweredNumbers {
         device: next,
         answer: number,
     }
+}
+
+fn taken(d: Device, input: u8, bytes: &[u8]) -> AnsweredNumbers
+    ensures { λ r. ⌜ r ≡ answeredNumbers (telegramOf d input (now (bytes .entry))) ⌝ }
+{
+    let taken = device::telegram(d, input, bytes);
+    numbered(taken)
 }
 
 #[no_mangle]
@@ -146,13 +153,7 @@ fn written(d: Device, block: u8, parameter: u8, first: u32, second: u32) -> Answ
     ensures { λ r. ⌜ r ≡ answeredNumbers (writeOf d block parameter first second) ⌝ }
 {
     let written = device::write(d, block, parameter, first, second);
-    let next = written.device;
-    let answer = written.answer;
-    let number = wire::answer_number(answer);
-    AnsweredNumbers {
-        device: next,
-        answer: number,
-    }
+    numbered(written)
 }
 
 #[no_mangle]
@@ -168,6 +169,22 @@ pub extern "C" fn serkoviu_write(
     let written = written(*d, block, parameter, first, second);
     *d = written.device;
     written.answer
+}
+
+fn loaded(d: Device, bytes: &[u8]) -> AnsweredNumbers
+    ensures { λ r. ⌜ r ≡ answeredNumbers (loadOf d (now (bytes .entry))) ⌝ }
+{
+    let loaded = device::load(d, bytes);
+    numbered(loaded)
+}
+
+#[no_mangle]
+pub extern "C" fn serkoviu_load(d: &mut Device, bytes: &[u8]) -> u8
+    ensures { λ r. ⌜ (r ≡ answerNumber (loadOf (now (d .entry)) (now (bytes .entry)) .answer)) × (now (d .exit) ≡ loadOf (now (d .entry)) (now (bytes .entry)) .device) ⌝ }
+{
+    let loaded = loaded(*d, bytes);
+    *d = loaded.device;
+    loaded.answer
 }
 
 fn reading(d: Device, block: u8, parameter: u8) -> ReadingNumbers

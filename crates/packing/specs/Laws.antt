@@ -3,20 +3,25 @@ use Prim.Native.Nat.{ℕ, zero, suc, _+_, _*_, _-_, _/_, _%_, _^_, _≤_, _<_}
 use native.Mathlib.Omega.{arith}
 use mathlib.Core.Path.{_≡_, refl, sym, ap, _∙_}
 use mathlib.Core.Bool.{Bool, true, false, cond, _&&_}
-use mathlib.Core.List.{List, [], _∷_, _++_, append-assoc, append-nil}
-use lib.ListN.{length, getD, take, drop, length-append, length-take, length-drop, take-append-drop, drop-of-length-le}
-use lib.Seq.{take-at, take-suc, drop-drop, drop-append-add}
+use mathlib.Core.List.{List, [], _∷_, _++_, map, append-assoc, append-nil}
+use lib.ListN.{length, getD, take, drop, set, replicate, length-append, length-take, length-drop, take-append-drop, drop-of-length-le}
+use lib.Seq.{take-at, take-suc, drop-cons, drop-drop, drop-append-add, set-at}
 use lib.IntN.{ℤ, pos, negsuc}
 use lib.Signed.{mag}
 use lib.Dec.{T, leb, ltb, eqb}
 use lib.Ieee.{Float, binary32, fits}
-use lib.Ieee.Bits.{toBits-lt}
+use lib.Ieee.Bits.{toBits-lt, ofBits-fits}
 use borrow.Author.Tests.{eqb-true, eq-eqb, ne-eqb, lt-ltb, le-ltb, le-leb}
 use Rattle.wire.specs.Bytes.{wordBytes, wordOf, replaced}
-use Rattle.numbers.specs.Floats.{bitsOf}
+use Rattle.numbers.specs.Floats.{floatOf, bitsOf}
+use Rattle.numbers.specs.FloatLaws.{float-back}
+use Rattle.linearisation.specs.declared.Point.{Point}
+use Rattle.linearisation.specs.declared.Table.{Table}
+use Rattle.linearisation.specs.Table.{zeroPoint}
 use Rattle.device.specs.declared.Device.{Device}
 use Rattle.packing.specs.declared.Unpacked.{Unpacked}
-use Rattle.packing.specs.Words.{flag, twos, ofTwos, firstWords, ainWords, totWords, aoWords, wordsOf, Small}
+use Rattle.packing.specs.Words.{flag, twos, ofTwos, firstWords, ainWords, pointWords, tableWords, totWords, aoWords, wordsOf, Small}
+use Rattle.packing.specs.Words.{half, point, points, table}
 use Rattle.packing.specs.Words.{ainSettings, ainState, ainOf, totSettings, totState, totOf, aoSettings, aoState, aoOf, deviceOf}
 use Rattle.packing.specs.Packed.{bytesOf, packedOf, packBytes, wordsIn, sameBytes, accepted, refusedBy, unpackedOf}
 
@@ -152,36 +157,145 @@ twos-back (negsuc n) h = rw (le-ltb (2 ^ 64 - suc n) (2 ^ 63) (omega arith)) (ap
 pub total-back : (z : ℤ) → mag z < 2 ^ 63 → ofTwos (twos z / 2 ^ 32 * 2 ^ 32 + twos z % 2 ^ 32) ≡ z
 total-back z h = let e : twos z / 2 ^ 32 * 2 ^ 32 + twos z % 2 ^ 32 ≡ twos z = omega arith in ap ofTwos e ∙ twos-back z h
 
+-- ---- a table's words and their table
+
+pub point-words-length : (n i : ℕ) (ps : List Point) → length (pointWords n i ps) ≡ 2 * n
+unfolding pointWords
+point-words-length zero i ps = refl
+point-words-length (suc n) i ps = let h = point-words-length n (suc i) ps in omega arith
+
+-- one place more
+pub point-words-more : (n i : ℕ) (ps : List Point)
+    → pointWords (suc n) i ps ≡ pointWords n i ps ++ bitsOf (getD ps (i + n) zeroPoint .x) ∷ bitsOf (getD ps (i + n) zeroPoint .y) ∷ []
+unfolding pointWords
+point-words-more zero i ps = let e : i + 0 ≡ i = omega arith in rw e
+point-words-more (suc n) i ps = let e : i + suc n ≡ suc i + n = omega arith in rw (e, point-words-more n (suc i) ps)
+
+pub points-more : (ws : List ℕ) (n at : ℕ) → points ws (suc n) at ≡ points ws n at ++ point ws (at + 2 * n) ∷ []
+unfolding points
+points-more ws zero at = let e : at + 2 * 0 ≡ at = omega arith in rw e
+points-more ws (suc n) at = let e : at + 2 * suc n ≡ at + 2 + 2 * n = omega arith in rw (e, points-more ws n (at + 2))
+
+pub points-length : (ws : List ℕ) (n at : ℕ) → length (points ws n at) ≡ n
+unfolding points
+points-length ws zero at = refl
+points-length ws (suc n) at = ap suc (points-length ws n (at + 2))
+
+-- the words so far, and zeros up to 43
+abbrev pub wordsTo : ℕ → Table → List ℕ
+wordsTo i t = t .count ∷ (pointWords i 0 (t .points) ++ replicate (2 * (21 - i)) 0)
+
+pub words-to-more : (t : Table) (i : ℕ) → i < 21
+    → set (set (wordsTo i t) (2 * i + 1) (bitsOf (getD (t .points) i zeroPoint .x))) (2 * i + 2) (bitsOf (getD (t .points) i zeroPoint .y)) ≡ wordsTo (suc i) t
+words-to-more t i h =
+    let front : List ℕ = t .count ∷ pointWords i 0 (t .points) in
+    let x = bitsOf (getD (t .points) i zeroPoint .x) in
+    let y = bitsOf (getD (t .points) i zeroPoint .y) in
+    let rest = replicate {A = ℕ} (2 * (21 - suc i)) 0 in
+    let r : 2 * (21 - i) ≡ suc (suc (2 * (21 - suc i))) = omega arith in
+    let l : length front ≡ 2 * i + 1 = omega (arith, point-words-length i 0 (t .points)) in
+    let m : length (front ++ x ∷ []) ≡ 2 * i + 2 = omega (arith, l, length-append front (x ∷ [])) in
+    let z : 0 + i ≡ i = omega arith in
+    rw (r, set-at front 0 (0 ∷ rest) x (2 * i + 1) l)
+    (ap (λ (w : List ℕ). set w (2 * i + 2) y) (sym (append-assoc front (x ∷ []) (0 ∷ rest)))
+    ∙ set-at (front ++ x ∷ []) 0 rest y (2 * i + 2) m
+    ∙ rw (point-words-more i 0 (t .points), z) (simp append-assoc))
+
+-- the places so far, and zeros up to 21
+abbrev pub pointsTo : ℕ → List ℕ → ℕ → List Point
+pointsTo n ws at = points ws n at ++ replicate (21 - n) zeroPoint
+
+pub points-to-more : (ws : List ℕ) (at n : ℕ) → n < 21 → set (pointsTo n ws at) n (point ws (at + 2 * n)) ≡ pointsTo (suc n) ws at
+points-to-more ws at n h =
+    let r : 21 - n ≡ suc (21 - suc n) = omega arith in
+    rw (r, points-more ws n at)
+    (set-at (points ws n at) zeroPoint (replicate (21 - suc n) zeroPoint) (point ws (at + 2 * n)) n (points-length ws n at) ∙ sym (simp append-assoc))
+
+-- numbers that fit 32 bits, and the table with them read again
+abbrev pub Fitting : List Point → Type 0
+Fitting [] = Unit
+Fitting (p ∷ ps) = T (fits binary32 (p .x)) × T (fits binary32 (p .y)) × Fitting ps
+
+fit-at : (ps : List Point) → Fitting ps → (i : ℕ) → T (fits binary32 (getD ps i zeroPoint .x)) × T (fits binary32 (getD ps i zeroPoint .y))
+fit-at [] f i = (ofBits-fits binary32 0, ofBits-fits binary32 0)
+fit-at (p ∷ ps) f zero = (f .0, f .1)
+fit-at (p ∷ ps) f (suc i) = fit-at ps (f .2) i
+
+small-points : (n i : ℕ) (ps : List Point) → Fitting ps → Small (pointWords n i ps)
+unfolding pointWords
+small-points zero i ps f = tt
+small-points (suc n) i ps f =
+    (bits-small (getD ps i zeroPoint .x) (fit-at ps f i .0), (bits-small (getD ps i zeroPoint .y) (fit-at ps f i .1), small-points n (suc i) ps f))
+
+-- n places from place i on
+abbrev places : ℕ → ℕ → List Point → List Point
+places zero i ps = []
+places (suc n) i ps = getD ps i zeroPoint ∷ places n (suc i) ps
+
+places-are : (n i : ℕ) (ps : List Point) → i + n ≡ length ps → places n i ps ≡ drop i ps
+places-are zero i ps h = sym (drop-of-length-le ps {i = i} (omega arith))
+places-are (suc n) i ps h = rw (drop-cons ps i zeroPoint (omega arith), places-are n (suc i) ps (omega arith))
+
+abbrev again : Point → Point
+again p = record { x = floatOf (bitsOf (p .x)); y = floatOf (bitsOf (p .y)) }
+
+again-all : (ps : List Point) → Fitting ps → map again ps ≡ ps
+again-all [] f = refl
+again-all (p ∷ ps) f = rw (float-back (p .x) (f .0), float-back (p .y) (f .1), again-all ps (f .2))
+
+module _ (t : Table) (full : length (t .points) ≡ 21) (f : Fitting (t .points)) where
+  pub table-small : t .count < 2 ^ 32 → Small (tableWords t)
+  unfolding tableWords
+  table-small c = (c, small-points 21 0 (t .points) f)
+
+  pub table-back : table (tableWords t) 0 ≡ t
+  unfolding table tableWords points pointWords
+  table-back =
+      ap (λ (ps : List Point). record { count = t .count; points = ps })
+      (ap (map again) (places-are 21 0 (t .points) (sym full)) ∙ again-all (t .points) f)
+
 -- ---- a device packed
 
-pub packed-length : (d : Device) → length (packedOf d) ≡ 264
-unfolding packedOf wordsOf ainWords totWords aoWords
+pub packed-length : (d : Device) → length (packedOf d) ≡ 440
+unfolding packedOf wordsOf ainWords tableWords pointWords totWords aoWords
 packed-length d = refl
 
 -- into a buffer of its own length
-pub pack-exact : (s : List ℕ) (d : Device) → length s ≡ 264 → packBytes s d ≡ packedOf d
+pub pack-exact : (s : List ℕ) (d : Device) → length s ≡ 440 → packBytes s d ≡ packedOf d
 unfolding packBytes
 pack-exact s d h =
-    rw (le-leb 264 (length s) (omega arith), drop-of-length-le s {i = 264} (omega arith)) (append-nil (packedOf d))
+    rw (le-leb 440 (length s) (omega arith), drop-of-length-le s {i = 440} (omega arith)) (append-nil (packedOf d))
 
--- the four parts put one after the other are the packed form
-pub pack-puts : (s : List ℕ) (d : Device) → 264 ≤ length s →
+-- the five parts put one after the other are the packed form
+pub pack-puts : (s : List ℕ) (d : Device) → 440 ≤ length s →
     let front = replaced (replaced s 0 (bytesOf (firstWords (d .«write_locking»)))) 8 (bytesOf (ainWords (d .ain))) in
-    replaced (replaced front 116 (bytesOf (totWords (d .tot)))) 172 (bytesOf (aoWords (d .ao))) ≡ packBytes s d
-unfolding packBytes packedOf wordsOf ainWords totWords aoWords
+    let all = replaced (replaced front 120 (bytesOf (tableWords (d .ain .table)))) 292 (bytesOf (totWords (d .tot))) in
+    replaced all 348 (bytesOf (aoWords (d .ao))) ≡ packBytes s d
+unfolding packBytes packedOf wordsOf ainWords tableWords pointWords totWords aoWords
 pack-puts s d h =
-    let f = firstWords (d .«write_locking») in
-    let a = ainWords (d .ain) in
-    let t = totWords (d .tot) in
-    let o = aoWords (d .ao) in
-    ap (λ (x : List ℕ). replaced (replaced x 116 (bytesOf t)) 172 (bytesOf o)) (replaced-twice s 0 (bytesOf f) (bytesOf a) (omega arith))
-    ∙ ap (λ (x : List ℕ). replaced x 172 (bytesOf o)) (replaced-twice s 0 (bytesOf f ++ bytesOf a) (bytesOf t) (omega arith))
-    ∙ replaced-twice s 0 (bytesOf f ++ bytesOf a ++ bytesOf t) (bytesOf o) (omega arith)
-    ∙ rw (le-leb 264 (length s) h)
+    let f = bytesOf (firstWords (d .«write_locking»)) in
+    let a = bytesOf (ainWords (d .ain)) in
+    let l = bytesOf (tableWords (d .ain .table)) in
+    let t = bytesOf (totWords (d .tot)) in
+    let o = bytesOf (aoWords (d .ao)) in
+    ap (λ (x : List ℕ). replaced (replaced (replaced x 120 l) 292 t) 348 o) (replaced-twice s 0 f a (omega arith))
+    ∙ ap (λ (x : List ℕ). replaced (replaced x 292 t) 348 o) (replaced-twice s 0 (f ++ a) l (omega arith))
+    ∙ ap (λ (x : List ℕ). replaced x 348 o) (replaced-twice s 0 (f ++ a ++ l) t (omega arith))
+    ∙ replaced-twice s 0 (f ++ a ++ l ++ t) o (omega arith)
+    ∙ rw (le-leb 440 (length s) h)
+
+-- so buffers each of which has one part more end as the packed form
+pub pack-steps : (s : List ℕ) (d : Device) → 440 ≤ length s → {f a l t o s₁ s₂ s₃ s₄ s₅ : List ℕ} → f ≡ firstWords (d .«write_locking»)
+    → a ≡ ainWords (d .ain) → l ≡ tableWords (d .ain .table) → t ≡ totWords (d .tot) → o ≡ aoWords (d .ao) → s₁ ≡ replaced s 0 (bytesOf f)
+    → s₂ ≡ replaced s₁ 8 (bytesOf a) → s₃ ≡ replaced s₂ 120 (bytesOf l) → s₄ ≡ replaced s₃ 292 (bytesOf t) → s₅ ≡ replaced s₄ 348 (bytesOf o)
+    → s₅ ≡ packBytes s d
+pack-steps s d h f a l t o e₁ e₂ e₃ e₄ e₅ = rw (e₅, e₄, e₃, e₂, e₁, f, a, l, t, o) (pack-puts s d h)
 
 -- a block's words are small and the block is read again from them
 module _ (d : Device) (first : Small (firstWords (d .«write_locking»)))
-    (ain : Small (ainWords (d .ain)) × (ainOf (ainWords (d .ain)) 0 ≡ d .ain))
+    (ain : Small (ainWords (d .ain)) × (ainSettings (ainWords (d .ain)) 0 ≡ d .ain .settings) × (ainState (ainWords (d .ain)) 14 ≡ d .ain .state)
+    × (half (ainWords (d .ain)) 27 ≡ d .ain .«st_rev»))
+    (lin : Small (tableWords (d .ain .table)) × (table (tableWords (d .ain .table)) 0 ≡ d .ain .table))
     (tot : Small (totWords (d .tot)) × (totOf (totWords (d .tot)) 0 ≡ d .tot))
     (ao : Small (aoWords (d .ao)) × (aoOf (aoWords (d .ao)) 0 ≡ d .ao)) where
   small-all : Small (wordsOf d)
@@ -189,40 +303,43 @@ module _ (d : Device) (first : Small (firstWords (d .«write_locking»)))
   small-all =
       let f = firstWords (d .«write_locking») in
       let a = ainWords (d .ain) in
+      let l = tableWords (d .ain .table) in
       let t = totWords (d .tot) in
-      small-append (f ++ a ++ t) (aoWords (d .ao)) (small-append (f ++ a) t (small-append f a first (ain .0)) (tot .0)) (ao .0)
+      let two = small-append (f ++ a) l (small-append f a first (ain .0)) (lin .0) in
+      small-append (f ++ a ++ l ++ t) (aoWords (d .ao)) (small-append (f ++ a ++ l) t two (tot .0)) (ao .0)
 
   device-back : deviceOf (wordsOf d) ≡ d
   unfolding deviceOf wordsOf ainOf totOf aoOf ainSettings ainState totSettings totState aoSettings aoState ainWords totWords aoWords
-  device-back = rw (ain .1, tot .1, ao .1)
+      table points tableWords pointWords
+  device-back = rw (ain .1, ain .2, ain .3, lin .1, tot .1, ao .1)
 
   -- so what was packed is unpacked again
   pub unpack-pack : unpackedOf (packedOf d) ≡ accepted d
   unfolding unpackedOf packedOf
   unpack-pack =
-      let l : length (bytesOf (wordsOf d)) ≡ 264 = packed-length d in
+      let l : length (bytesOf (wordsOf d)) ≡ 440 = packed-length d in
       let w : wordsIn (bytesOf (wordsOf d)) ≡ wordsOf d = words-back (wordsOf d) small-all in
-      rw (w, device-back, eq-eqb (length (bytesOf (wordsOf d))) 264 l, same-self (bytesOf (wordsOf d)))
+      rw (w, device-back, eq-eqb (length (bytesOf (wordsOf d))) 440 l, same-self (bytesOf (wordsOf d)))
 
 -- ---- bytes unpacked
 
 module _ (s : List ℕ) where
-  pub unpack-length : (length s ≡ 264 → ⊥) → unpackedOf s ≡ refusedBy 7
+  pub unpack-length : (length s ≡ 440 → ⊥) → unpackedOf s ≡ refusedBy 7
   unfolding unpackedOf
-  unpack-length n = rw (ne-eqb (length s) 264 n)
+  unpack-length n = rw (ne-eqb (length s) 440 n)
 
-  pub unpack-yes : length s ≡ 264 → s ≡ packedOf (deviceOf (wordsIn s)) → unpackedOf s ≡ accepted (deviceOf (wordsIn s))
+  pub unpack-yes : length s ≡ 440 → s ≡ packedOf (deviceOf (wordsIn s)) → unpackedOf s ≡ accepted (deviceOf (wordsIn s))
   unfolding unpackedOf
-  unpack-yes l e = rw (eq-eqb (length s) 264 l, same-of s (packedOf (deviceOf (wordsIn s))) e)
+  unpack-yes l e = rw (eq-eqb (length s) 440 l, same-of s (packedOf (deviceOf (wordsIn s))) e)
 
-  pub unpack-no : length s ≡ 264 → (s ≡ packedOf (deviceOf (wordsIn s)) → ⊥) → unpackedOf s ≡ refusedBy 255
+  pub unpack-no : length s ≡ 440 → (s ≡ packedOf (deviceOf (wordsIn s)) → ⊥) → unpackedOf s ≡ refusedBy 255
   unfolding unpackedOf
-  unpack-no l n = rw (eq-eqb (length s) 264 l, same-not s (packedOf (deviceOf (wordsIn s))) n)
+  unpack-no l n = rw (eq-eqb (length s) 440 l, same-not s (packedOf (deviceOf (wordsIn s))) n)
 
   -- what is accepted packs to the bytes that it came from
   pub pack-unpack : unpackedOf s .answer ≡ 0 → packedOf (unpackedOf s .device) ≡ s
   unfolding unpackedOf
-  pack-unpack = go (eqb (length s) 264) (sameBytes s (packedOf d)) refl
+  pack-unpack = go (eqb (length s) 440) (sameBytes s (packedOf d)) refl
     where
       d : Device
       d = deviceOf (wordsIn s)

@@ -1,5 +1,5 @@
 -- The words of a device: every field in the order of its struct, and the device read again from words. Assumes nothing.
-use Prim.Native.Nat.{ℕ, suc, _+_, _*_, _-_, _/_, _%_, _^_, _<_}
+use Prim.Native.Nat.{ℕ, zero, suc, _+_, _*_, _-_, _/_, _%_, _^_, _<_}
 use mathlib.Core.Bool.{Bool, cond}
 use mathlib.Core.List.{List, [], _∷_, _++_}
 use lib.ListN.{getD}
@@ -9,6 +9,9 @@ use lib.Ieee.{Float}
 use Rattle.numbers.specs.Floats.{floatOf, bitsOf}
 use Rattle.scaling.specs.declared.Scale.{Scale}
 use Rattle.wire.specs.declared.Pair.{Pair}
+use Rattle.linearisation.specs.declared.Point.{Point}
+use Rattle.linearisation.specs.declared.Table.{Table}
+use Rattle.linearisation.specs.Table.{zeroPoint}
 use Rattle.blocks.specs.declared.Kept.{Kept}
 use Rattle.ain.specs.declared.Alarms.{Alarms}
 use Rattle.ain.specs.declared.Settings.{Settings as AinSettings}
@@ -34,6 +37,7 @@ abbrev pub twos : ℤ → ℕ
 twos (pos n) = n
 twos (negsuc n) = 2 ^ 64 - suc n
 
+-- AIN but for its table
 unfoldable pub ainWords : AinBlock → List ℕ
 ainWords b =
     b .settings .target
@@ -41,6 +45,7 @@ ainWords b =
     ∷ bitsOf (b .settings .«pv_scale» .high)
     ∷ bitsOf (b .settings .«out_scale» .low)
     ∷ bitsOf (b .settings .«out_scale» .high)
+    ∷ b .settings .«lin_type»
     ∷ bitsOf (b .settings .«pv_ftime»)
     ∷ b .settings .«fsafe_type»
     ∷ bitsOf (b .settings .«fsafe_value»)
@@ -64,6 +69,15 @@ ainWords b =
     ∷ flag (b .state .alarms .«lo_lo»)
     ∷ b .«st_rev»
     ∷ []
+
+-- n places of a table from place i on, x and then y of each
+unfoldable pub pointWords : ℕ → ℕ → List Point → List ℕ
+pointWords zero i ps = []
+pointWords (suc n) i ps = bitsOf (getD ps i zeroPoint .x) ∷ bitsOf (getD ps i zeroPoint .y) ∷ pointWords n (suc i) ps
+
+-- Q1.3: how many pairs a table has, and its 21 places
+unfoldable pub tableWords : Table → List ℕ
+tableWords t = t .count ∷ pointWords 21 0 (t .points)
 
 unfoldable pub totWords : TotBlock → List ℕ
 totWords b =
@@ -112,11 +126,11 @@ aoWords b =
 
 -- the layout's version and WRITE_LOCKING
 abbrev pub firstWords : ℕ → List ℕ
-firstWords lock = 1 ∷ lock ∷ []
+firstWords lock = 2 ∷ lock ∷ []
 
--- 66 words
+-- 110 words
 unfoldable pub wordsOf : Device → List ℕ
-wordsOf d = firstWords (d .«write_locking») ++ ainWords (d .ain) ++ totWords (d .tot) ++ aoWords (d .ao)
+wordsOf d = firstWords (d .«write_locking») ++ ainWords (d .ain) ++ tableWords (d .ain .table) ++ totWords (d .tot) ++ aoWords (d .ao)
 
 -- each has 32 bits
 abbrev pub Small : List ℕ → Type 0
@@ -164,20 +178,32 @@ module _ (ws : List ℕ) where
   abbrev pub total : ℕ → ℤ
   total at = ofTwos (word at * 2 ^ 32 + word (at + 1))
 
-  -- a block from the word at on: its settings, its state and ST_REV
+  abbrev pub point : ℕ → Point
+  point at = record { x = float at; y = float (at + 1) }
+
+  -- n places of a table
+  unfoldable pub points : ℕ → ℕ → List Point
+  points zero at = []
+  points (suc n) at = point at ∷ points n (at + 2)
+
+  unfoldable pub table : ℕ → Table
+  table at = record { count = word at; points = points 21 (at + 1) }
+
+  -- a block from the word at on: its settings, its state and ST_REV; after them AIN's table
   unfoldable pub ainSettings : ℕ → AinSettings
   ainSettings at = record {
     target = word at;
     «pv_scale» = scale (at + 1);
     «out_scale» = scale (at + 3);
-    «pv_ftime» = float (at + 5);
-    «fsafe_type» = word (at + 6);
-    «fsafe_value» = float (at + 7);
-    «alarm_hys» = float (at + 8);
-    «hi_hi_lim» = float (at + 9);
-    «hi_lim» = float (at + 10);
-    «lo_lim» = float (at + 11);
-    «lo_lo_lim» = float (at + 12);
+    «lin_type» = word (at + 5);
+    «pv_ftime» = float (at + 6);
+    «fsafe_type» = word (at + 7);
+    «fsafe_value» = float (at + 8);
+    «alarm_hys» = float (at + 9);
+    «hi_hi_lim» = float (at + 10);
+    «hi_lim» = float (at + 11);
+    «lo_lim» = float (at + 12);
+    «lo_lo_lim» = float (at + 13);
   }
 
   unfoldable pub ainState : ℕ → AinState
@@ -191,7 +217,7 @@ module _ (ws : List ℕ) where
   }
 
   unfoldable pub ainOf : ℕ → AinBlock
-  ainOf at = record { settings = ainSettings at; state = ainState (at + 13); «st_rev» = half (at + 26) }
+  ainOf at = record { settings = ainSettings at; state = ainState (at + 14); «st_rev» = half (at + 27); table = table (at + 28) }
 
   unfoldable pub totSettings : ℕ → TotSettings
   totSettings at = record {
@@ -237,6 +263,6 @@ module _ (ws : List ℕ) where
   unfoldable pub aoOf : ℕ → AoBlock
   aoOf at = record { settings = aoSettings at; state = aoState (at + 9); «st_rev» = half (at + 22) }
 
-  -- AIN has 27 words from the third on, TOT then 14, AO 23
+  -- AIN has 71 words from the third on, TOT then 14, AO 23
   unfoldable pub deviceOf : Device
-  deviceOf = record { «write_locking» = word 1; ain = ainOf 2; tot = totOf 29; ao = aoOf 43 }
+  deviceOf = record { «write_locking» = word 1; ain = ainOf 2; tot = totOf 73; ao = aoOf 87 }

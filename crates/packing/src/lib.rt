@@ -1,12 +1,12 @@
-// The device as bytes, to be stored over a loss of power or moved to another machine: 66 words of 32 bits, highest
-// byte first. The first is the layout's version, 1; then every field of the device in the order of its struct, a word
+// The device as bytes, to be stored over a loss of power or moved to another machine: 110 words of 32 bits, highest
+// byte first. The first is the layout's version, 2; then every field of the device in the order of its struct, a word
 // each: numbers as they are, flags as 1 or 0, floats by their bits with 0x7FC00000 for a NaN. The total has two words,
-// two's complement, the higher first.
+// two's complement, the higher first. The linearisation table has 43: its count, then x and y of each of its 21 places.
 ghost use mathlib.Core.Path.{_≡_};
 ghost use Prim.Native.Nat.{_+_, _*_, _≤_};
 ghost use lib.ListN.{length};
 ghost use Rattle.wire.specs.Bytes.{wordBytes, replaced};
-ghost use Rattle.packing.specs.Words.{twos, ofTwos, ainWords, totWords, aoWords, firstWords, Small, deviceOf};
+ghost use Rattle.packing.specs.Words.{twos, ofTwos, ainWords, tableWords, totWords, aoWords, firstWords, Small, deviceOf};
 ghost use Rattle.packing.specs.Words.{ainSettings, ainState, ainOf, totSettings, totState, totOf, aoSettings, aoState, aoOf};
 ghost use Rattle.packing.specs.Words as Words;
 ghost use Rattle.packing.specs.Packed.{bytesOf, packedOf, packAnswer, packBytes, wordsIn, accepted, refusedBy, unpackedOf};
@@ -17,6 +17,8 @@ use device::AinBlock;
 use device::AoBlock;
 use device::Device;
 use device::TotBlock;
+use linearisation::Point;
+use linearisation::Table;
 use numbers::floats::bits_of;
 use numbers::floats::float_of;
 use scaling::Scale;
@@ -25,7 +27,7 @@ use wire::Pair;
 use wire::Refusal;
 
 // The bytes of a packed device.
-pub const PACKED: usize = 264;
+pub const PACKED: usize = 440;
 
 // What bytes are unpacked to. The answer is 0 where they are a device, else the refusal's number: 7 for another length
 // than PACKED, 255 for bytes that no device packs to. Of a refusal the device is the factory's.
@@ -61,12 +63,13 @@ fn first_words(lock: u32) -> [u32; 2]
     ensures { λ r. ⌜ r ≡ firstWords lock ⌝ }
     ensures { λ _. ⌜ Small (firstWords lock) ⌝ }
 {
-    [1, lock]
+    [2, lock]
 }
 
-fn ain_words(b: AinBlock) -> [u32; 27]
+// AIN but for its table.
+fn ain_words(b: AinBlock) -> [u32; 28]
     ensures { λ r. ⌜ r ≡ ainWords b ⌝ }
-    ensures { λ _. ⌜ Small (ainWords b) × (ainOf (ainWords b) 0 ≡ b) ⌝ }
+    ensures { λ _. ⌜ Small (ainWords b) × (ainSettings (ainWords b) 0 ≡ b .settings) × (ainState (ainWords b) 14 ≡ b .state) × (Words.half (ainWords b) 27 ≡ b .«st_rev») ⌝ }
 {
     [
         b.settings.target,
@@ -74,6 +77,7 @@ fn ain_words(b: AinBlock) -> [u32; 27]
         bits_of(b.settings.pv_scale.high),
         bits_of(b.settings.out_scale.low),
         bits_of(b.settings.out_scale.high),
+        b.settings.lin_type,
         bits_of(b.settings.pv_ftime),
         b.settings.fsafe_type,
         bits_of(b.settings.fsafe_value),
@@ -97,6 +101,25 @@ fn ain_words(b: AinBlock) -> [u32; 27]
         flag(b.state.alarms.lo_lo),
         b.st_rev as u32,
     ]
+}
+
+// A table's count and the numbers of its places.
+fn table_words(t: Table) -> [u32; 43]
+    ensures { λ r. ⌜ r ≡ tableWords t ⌝ }
+    ensures { λ _. ⌜ Small (tableWords t) × (Words.table (tableWords t) 0 ≡ t) ⌝ }
+{
+    let mut words = [0; 43];
+    words[0] = t.count;
+    let mut i = 0;
+    while i < 21 {
+        let p = t.points[i];
+        let x = bits_of(p.x);
+        let y = bits_of(p.y);
+        words[2 * i + 1] = x;
+        words[2 * i + 2] = y;
+        i += 1;
+    }
+    words
 }
 
 fn tot_words(b: TotBlock) -> [u32; 14]
@@ -289,6 +312,42 @@ fn input_at(s: &[u8], i: usize) -> Input
     }
 }
 
+fn point_at(s: &[u8], i: usize) -> Point
+    requires { ⌜ 4 * i + 8 ≤ length (now s) ⌝ }
+    ensures { λ r. ⌜ r ≡ Words.point (wordsIn (now (s .entry))) i ⌝ }
+{
+    let x = float_at(s, i);
+    let y = float_at(s, i + 1);
+    Point { x: x, y: y }
+}
+
+fn points_at(s: &[u8], i: usize) -> [Point; 21]
+    requires { ⌜ 4 * i + 168 ≤ length (now s) ⌝ }
+    ensures { λ r. ⌜ r ≡ Words.points (wordsIn (now (s .entry))) 21 i ⌝ }
+{
+    let empty = linearisation::none();
+    let mut points = empty.points;
+    let mut n = 0;
+    while n < 21 {
+        let p = point_at(s, i + 2 * n);
+        points[n] = p;
+        n += 1;
+    }
+    points
+}
+
+fn table_at(s: &[u8], i: usize) -> Table
+    requires { ⌜ 4 * i + 172 ≤ length (now s) ⌝ }
+    ensures { λ r. ⌜ r ≡ Words.table (wordsIn (now (s .entry))) i ⌝ }
+{
+    let count = word_at(s, i);
+    let points = points_at(s, i + 1);
+    Table {
+        count: count,
+        points: points,
+    }
+}
+
 fn total_of(n: u64) -> i64
     ensures { λ r. ⌜ r ≡ ofTwos n ⌝ }
 {
@@ -311,24 +370,26 @@ fn total_at(s: &[u8], i: usize) -> i64
 // ---- a device of bytes
 
 fn ain_settings_at(s: &[u8], i: usize) -> ain::Settings
-    requires { ⌜ 4 * i + 52 ≤ length (now s) ⌝ }
+    requires { ⌜ 4 * i + 56 ≤ length (now s) ⌝ }
     ensures { λ r. ⌜ r ≡ ainSettings (wordsIn (now (s .entry))) i ⌝ }
 {
     let target = word_at(s, i);
     let pv_scale = scale_at(s, i + 1);
     let out_scale = scale_at(s, i + 3);
-    let pv_ftime = float_at(s, i + 5);
-    let fsafe_type = word_at(s, i + 6);
-    let fsafe_value = float_at(s, i + 7);
-    let alarm_hys = float_at(s, i + 8);
-    let hi_hi_lim = float_at(s, i + 9);
-    let hi_lim = float_at(s, i + 10);
-    let lo_lim = float_at(s, i + 11);
-    let lo_lo_lim = float_at(s, i + 12);
+    let lin_type = word_at(s, i + 5);
+    let pv_ftime = float_at(s, i + 6);
+    let fsafe_type = word_at(s, i + 7);
+    let fsafe_value = float_at(s, i + 8);
+    let alarm_hys = float_at(s, i + 9);
+    let hi_hi_lim = float_at(s, i + 10);
+    let hi_lim = float_at(s, i + 11);
+    let lo_lim = float_at(s, i + 12);
+    let lo_lo_lim = float_at(s, i + 13);
     ain::Settings {
         target: target,
         pv_scale: pv_scale,
         out_scale: out_scale,
+        lin_type: lin_type,
         pv_ftime: pv_ftime,
         fsafe_type: fsafe_type,
         fsafe_value: fsafe_value,
@@ -361,16 +422,18 @@ fn ain_state_at(s: &[u8], i: usize) -> ain::State
 }
 
 fn ain_at(s: &[u8], i: usize) -> AinBlock
-    requires { ⌜ 4 * i + 108 ≤ length (now s) ⌝ }
+    requires { ⌜ 4 * i + 284 ≤ length (now s) ⌝ }
     ensures { λ r. ⌜ r ≡ ainOf (wordsIn (now (s .entry))) i ⌝ }
 {
     let settings = ain_settings_at(s, i);
-    let state = ain_state_at(s, i + 13);
-    let st_rev = half_at(s, i + 26);
+    let state = ain_state_at(s, i + 14);
+    let st_rev = half_at(s, i + 27);
+    let table = table_at(s, i + 28);
     AinBlock {
         settings: settings,
         state: state,
         st_rev: st_rev,
+        table: table,
     }
 }
 
@@ -479,13 +542,13 @@ fn ao_at(s: &[u8], i: usize) -> AoBlock
 }
 
 fn device_at(s: &[u8]) -> Device
-    requires { ⌜ 264 ≤ length (now s) ⌝ }
+    requires { ⌜ 440 ≤ length (now s) ⌝ }
     ensures { λ r. ⌜ r ≡ deviceOf (wordsIn (now (s .entry))) ⌝ }
 {
     let write_locking = word_at(s, 1);
     let ain = ain_at(s, 2);
-    let tot = tot_at(s, 29);
-    let ao = ao_at(s, 43);
+    let tot = tot_at(s, 73);
+    let ao = ao_at(s, 87);
     Device {
         write_locking: write_locking,
         ain: ain,
@@ -505,6 +568,7 @@ pub fn pack(d: Device, buf: &mut [u8]) -> Answer
     let room = buf.len();
     let first = first_words(d.write_locking);
     let ain = ain_words(d.ain);
+    let table = table_words(d.ain.table);
     let tot = tot_words(d.tot);
     let ao = ao_words(d.ao);
     if room < PACKED {
@@ -512,8 +576,9 @@ pub fn pack(d: Device, buf: &mut [u8]) -> Answer
     }
     put_words(buf, 0, &first);
     put_words(buf, 8, &ain);
-    put_words(buf, 116, &tot);
-    put_words(buf, 172, &ao);
+    put_words(buf, 120, &table);
+    put_words(buf, 292, &tot);
+    put_words(buf, 348, &ao);
     Answer::Accepted
 }
 

@@ -1,8 +1,9 @@
 // Devices packed and unpacked. The file `stdout` has what the packed form's description in `packing` and paper 01 make of
 // them, worked out apart from this code. It would show a field left out, packed twice or at another place, a byte order
-// turned round, a total or a NaN with other bits, a byte written after the 264, and bytes unpacked that are no device.
+// turned round, a total or a NaN with other bits, a byte written after the 440, and bytes unpacked that are no device.
 use device::Device;
 use libc::STDOUT_FILENO;
+use linearisation::Point;
 use packing::PACKED;
 use wire::Answer;
 use wire::Pair;
@@ -57,15 +58,19 @@ fn show_answer(answer: Answer) {
 // A line for each struct of the device, and the byte after them.
 fn show_structs(bytes: &[u8]) {
     show_words(b"  version, WRITE_LOCKING", bytes, 0, 2);
-    show_words(b"  AIN settings", bytes, 2, 15);
-    show_words(b"  AIN state", bytes, 15, 28);
-    show_words(b"  AIN ST_REV", bytes, 28, 29);
-    show_words(b"  TOT settings", bytes, 29, 34);
-    show_words(b"  TOT state", bytes, 34, 42);
-    show_words(b"  TOT ST_REV", bytes, 42, 43);
-    show_words(b"  AO settings", bytes, 43, 52);
-    show_words(b"  AO state", bytes, 52, 65);
-    show_words(b"  AO ST_REV", bytes, 65, 66);
+    show_words(b"  AIN settings", bytes, 2, 16);
+    show_words(b"  AIN state", bytes, 16, 29);
+    show_words(b"  AIN ST_REV", bytes, 29, 30);
+    show_words(b"  AIN table, count", bytes, 30, 31);
+    show_words(b"  pairs 1 to 7", bytes, 31, 45);
+    show_words(b"  pairs 8 to 14", bytes, 45, 59);
+    show_words(b"  pairs 15 to 21", bytes, 59, 73);
+    show_words(b"  TOT settings", bytes, 73, 78);
+    show_words(b"  TOT state", bytes, 78, 86);
+    show_words(b"  TOT ST_REV", bytes, 86, 87);
+    show_words(b"  AO settings", bytes, 87, 96);
+    show_words(b"  AO state", bytes, 96, 109);
+    show_words(b"  AO ST_REV", bytes, 109, 110);
     text(b"  after them ");
     show_byte(bytes, PACKED);
     text(b"\n");
@@ -73,7 +78,7 @@ fn show_structs(bytes: &[u8]) {
 
 // A device's words, from a buffer that has a byte more.
 fn show(name: &[u8], d: Device) {
-    let mut bytes = [0xa5u8; 265];
+    let mut bytes = [0xa5u8; 441];
     let answer = packing::pack(d, &mut bytes);
     text(name);
     text(b": ");
@@ -122,6 +127,15 @@ fn used() -> Device {
     write(d, 0, 18, 0, 0)
 }
 
+// By a table of three pairs, (0, -0) (50, 25.5) (100, 100).
+fn tabled() -> Device {
+    let loaded = device::load(
+        device::factory(),
+        b"\x00\x00\x00\x00\x80\x00\x00\x00\x42\x48\x00\x00\x41\xcc\x00\x00\x42\xc8\x00\x00\x42\xc8\x00\x00",
+    );
+    write(loaded.device, 1, 13, 1, 0)
+}
+
 // Fields at the ends of their types, which no call leads to.
 fn ends() -> Device {
     let mut d = device::factory();
@@ -129,7 +143,10 @@ fn ends() -> Device {
     let mut tot = d.tot;
     let mut settings = ain.settings;
     let mut state = ain.state;
+    let mut table = ain.table;
+    let mut points = table.points;
     let mut total = tot.state;
+    settings.lin_type = 0xffff_ffff;
     settings.pv_ftime = 0.0 / 0.0;
     settings.fsafe_value = -0.0;
     let out = Pair {
@@ -137,9 +154,22 @@ fn ends() -> Device {
         status: 255,
     };
     state.out = out;
+    let first = Point {
+        x: 0.0 / 0.0,
+        y: 1.0 / 0.0,
+    };
+    let last = Point {
+        x: -1.0 / 0.0,
+        y: -0.0,
+    };
+    points[0] = first;
+    points[20] = last;
+    table.count = 0xffff_ffff;
+    table.points = points;
     total.total = i64::MIN;
     ain.settings = settings;
     ain.state = state;
+    ain.table = table;
     ain.st_rev = 65535;
     tot.state = total;
     d.write_locking = 0xffff_ffff;
@@ -153,8 +183,8 @@ fn ends() -> Device {
 // The answer, and of which device: the one that packs to these bytes, or the factory's.
 fn unpacked(name: &[u8], bytes: &[u8]) {
     let u = packing::unpack(bytes);
-    let mut again = [0u8; 264];
-    let mut fresh = [0u8; 264];
+    let mut again = [0u8; 440];
+    let mut fresh = [0u8; 440];
     packing::pack(u.device, &mut again);
     packing::pack(device::factory(), &mut fresh);
     text(name);
@@ -169,9 +199,9 @@ fn unpacked(name: &[u8], bytes: &[u8]) {
     text(b"\n");
 }
 
-fn set(bytes: [u8; 264], at: usize, value: u8) -> [u8; 264] {
+fn set(bytes: [u8; 440], at: usize, value: u8) -> [u8; 440] {
     let mut next = bytes;
-    if at < 264 {
+    if at < 440 {
         next[at] = value;
     }
     next
@@ -179,7 +209,7 @@ fn set(bytes: [u8; 264], at: usize, value: u8) -> [u8; 264] {
 
 // The packed bytes of a device with one word, counted from 0, made another.
 fn changed(name: &[u8], d: Device, i: u8, word: u32) {
-    let mut bytes = [0u8; 264];
+    let mut bytes = [0u8; 440];
     packing::pack(d, &mut bytes);
     let at = 4 * i as usize;
     bytes = set(bytes, at, (word / 0x100_0000) as u8);
@@ -190,20 +220,21 @@ fn changed(name: &[u8], d: Device, i: u8, word: u32) {
 }
 
 fn lengths() {
-    let mut bytes = [0u8; 265];
+    let mut bytes = [0u8; 441];
     packing::pack(used(), &mut bytes);
     unpacked(b"no bytes", &bytes[0..0]);
-    unpacked(b"263 bytes", &bytes[0..263]);
     unpacked(b"264 bytes", &bytes[0..264]);
-    unpacked(b"265 bytes", &bytes);
+    unpacked(b"439 bytes", &bytes[0..439]);
+    unpacked(b"440 bytes", &bytes[0..440]);
+    unpacked(b"441 bytes", &bytes);
 }
 
 // A buffer that is a byte too short.
 fn short() {
-    let before = [0xa5u8; 263];
+    let before = [0xa5u8; 439];
     let mut bytes = before;
     let answer = packing::pack(used(), &mut bytes);
-    text(b"into 263 bytes: ");
+    text(b"into 439 bytes: ");
     show_answer(answer);
     if check::same(&before, &bytes) {
         text(b", unchanged");
@@ -214,23 +245,30 @@ fn short() {
 fn words() {
     let d = used();
     changed(b"version 0", d, 0, 0);
-    changed(b"version 2", d, 0, 2);
-    changed(b"version 0x01000000", d, 0, 0x100_0000);
-    changed(b"a filter flag of 0", d, 18, 0);
-    changed(b"a filter flag of 2", d, 18, 2);
-    changed(b"a flag of 0x80000001", d, 18, 0x8000_0001);
-    changed(b"a status of 255", d, 16, 255);
-    changed(b"a status of 256", d, 16, 256);
-    changed(b"TOT's operator status of 0x180", d, 41, 0x180);
-    changed(b"ST_REV 65535", d, 28, 65535);
-    changed(b"ST_REV 65536", d, 28, 65536);
-    changed(b"a NaN 0x7FC00000", d, 7, 0x7fc0_0000);
-    changed(b"a NaN 0x7FC00001", d, 7, 0x7fc0_0001);
-    changed(b"a NaN 0xFFC00000", d, 7, 0xffc0_0000);
-    changed(b"a NaN 0x7F800001", d, 7, 0x7f80_0001);
-    changed(b"a value's bits 0x7F800001", d, 15, 0x7f80_0001);
-    changed(b"a total of 2 ^ 63 - 1", with_total(d, i64::MAX), 0, 1);
-    changed(b"IFS of AO's last input 0x100", d, 64, 0x100);
+    changed(b"version 1", d, 0, 1);
+    changed(b"version 3", d, 0, 3);
+    changed(b"version 0x02000000", d, 0, 0x200_0000);
+    changed(b"a filter flag of 0", d, 19, 0);
+    changed(b"a filter flag of 2", d, 19, 2);
+    changed(b"a flag of 0x80000001", d, 19, 0x8000_0001);
+    changed(b"a status of 255", d, 17, 255);
+    changed(b"a status of 256", d, 17, 256);
+    changed(b"TOT's operator status of 0x180", d, 85, 0x180);
+    changed(b"ST_REV 65535", d, 29, 65535);
+    changed(b"ST_REV 65536", d, 29, 65536);
+    changed(b"a NaN 0x7FC00000", d, 8, 0x7fc0_0000);
+    changed(b"a NaN 0x7FC00001", d, 8, 0x7fc0_0001);
+    changed(b"a NaN 0xFFC00000", d, 8, 0xffc0_0000);
+    changed(b"a NaN 0x7F800001", d, 8, 0x7f80_0001);
+    changed(b"a value's bits 0x7F800001", d, 16, 0x7f80_0001);
+    changed(b"LIN_TYPE 2", d, 7, 2);
+    changed(b"a count of 22", d, 30, 22);
+    changed(b"the first x a NaN 0x7FC00000", d, 31, 0x7fc0_0000);
+    changed(b"the first y a NaN 0xFFC00000", d, 32, 0xffc0_0000);
+    changed(b"the last x a NaN 0x7FC00001", d, 71, 0x7fc0_0001);
+    changed(b"the last y a NaN 0x7FC00000", d, 72, 0x7fc0_0000);
+    changed(b"a total of 2 ^ 63 - 1", with_total(d, i64::MAX), 0, 2);
+    changed(b"IFS of AO's last input 0x100", d, 108, 0x100);
 }
 
 fn with_total(d: Device, z: i64) -> Device {
@@ -246,10 +284,12 @@ fn with_total(d: Device, z: i64) -> Device {
 fn main() {
     show(b"factory", device::factory());
     show(b"used", used());
+    show(b"tabled", tabled());
     show(b"ends", ends());
-    changed(b"factory", device::factory(), 0, 1);
-    changed(b"used", used(), 0, 1);
-    changed(b"ends", ends(), 0, 1);
+    changed(b"factory", device::factory(), 0, 2);
+    changed(b"used", used(), 0, 2);
+    changed(b"tabled", tabled(), 0, 2);
+    changed(b"ends", ends(), 0, 2);
     short();
     lengths();
     words();

@@ -16,7 +16,7 @@ pub struct Layout {
 
 /// Declares structs as C lays them out, and `LAYOUTS`, a list of their layouts.
 macro_rules! c_structs {
-    ($($name:ident { $($field:ident: $type:ident),* })*) => {
+    ($($name:ident { $($field:ident: $type:ty),* })*) => {
         $(#[repr(C)]
         #[derive(Clone, Copy, Debug, PartialEq)]
         pub struct $name { $(pub $field: $type),* })*
@@ -35,11 +35,13 @@ c_structs! {
     Scale { low: f32, high: f32 }
     Kept { some: bool, value: f32 }
     AinSettings {
-        target: u32, pv_scale: Scale, out_scale: Scale, pv_ftime: f32, fsafe_type: u32, fsafe_value: f32, alarm_hys: f32,
-        hi_hi_lim: f32, hi_lim: f32, lo_lim: f32, lo_lo_lim: f32
+        target: u32, pv_scale: Scale, out_scale: Scale, lin_type: u32, pv_ftime: f32, fsafe_type: u32, fsafe_value: f32,
+        alarm_hys: f32, hi_hi_lim: f32, hi_lim: f32, lo_lim: f32, lo_lo_lim: f32
     }
     Alarms { hi_hi: bool, hi: bool, lo: bool, lo_lo: bool }
     AinState { out: Pair, mode: u32, filter: Kept, last: Kept, operator: Pair, alarms: Alarms }
+    Point { x: f32, y: f32 }
+    Table { count: u32, points: [Point; 21] }
     TotSettings { target: u32, set_tot: u32, mode_tot: u32, fail_tot: u32, preset_tot: f32 }
     TotState { total: i64, out: Pair, mode: u32, rate: Kept, operator_status: u8 }
     AoSettings {
@@ -48,7 +50,7 @@ c_structs! {
     }
     AoInput { some: bool, value: f32, silence: u32, ifs: bool }
     AoState { out: Pair, mode: u32, operator: Pair, sp: AoInput, rcas_in: AoInput }
-    AinBlock { settings: AinSettings, state: AinState, st_rev: u16 }
+    AinBlock { settings: AinSettings, state: AinState, st_rev: u16, table: Table }
     TotBlock { settings: TotSettings, state: TotState, st_rev: u16 }
     AoBlock { settings: AoSettings, state: AoState, st_rev: u16 }
     Device { write_locking: u32, ain: AinBlock, tot: TotBlock, ao: AoBlock }
@@ -73,7 +75,7 @@ extern "C" {
 }
 
 /// The length of a packed device.
-pub const PACKED_BYTES: usize = 264;
+pub const PACKED_BYTES: usize = 440;
 
 /// A device of the archive's.
 pub struct Archive {

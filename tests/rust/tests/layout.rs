@@ -5,10 +5,10 @@ use std::collections::BTreeMap;
 use std::fs;
 use std::mem::offset_of;
 
-use comparison::archive::{AoBlock, Archive, Device, Kept, Pair, Scale, LAYOUTS, PACKED_BYTES};
+use comparison::archive::{AoBlock, Archive, Device, Kept, Pair, Point, Scale, LAYOUTS, PACKED_BYTES};
 use comparison::calls::{Head, Order};
 
-const CRATES: [&str; 8] = ["wire", "scaling", "blocks", "ain", "tot", "ao", "device", "capi"];
+const CRATES: [&str; 9] = ["wire", "scaling", "linearisation", "blocks", "ain", "tot", "ao", "device", "capi"];
 
 fn file(path: &str) -> String {
     fs::read_to_string(format!("../../{path}")).unwrap_or_else(|error| panic!("{path}: {error}"))
@@ -26,6 +26,14 @@ fn mirrored(of_crate: &str, name: &str) -> String {
             format!("{}{}{name}", of_crate[..1].to_uppercase(), &of_crate[1..])
         }
         _ => name.into(),
+    }
+}
+
+/// An array's element and length; another type has no length.
+fn element(of_type: &str) -> (&str, Option<&str>) {
+    match between(of_type, "[", "]").and_then(|(array, _)| array.split_once("; ")) {
+        Some((element, length)) => (element, Some(length)),
+        None => (of_type, None),
     }
 }
 
@@ -68,7 +76,7 @@ fn that_cross_to_c(structs: Structs) -> Structs {
     let mut crossing = Structs::new();
     while let Some(name) = names.pop() {
         if let Some(fields) = structs.get(&name) {
-            names.extend(fields.iter().map(|field| field.1.clone()));
+            names.extend(fields.iter().map(|field| element(&field.1).0.to_string()));
             crossing.insert(name, fields.clone());
         }
     }
@@ -120,7 +128,11 @@ fn header_has_the_same_structs_and_numbers() {
         let wanted: Vec<_> = layout
             .fields
             .iter()
-            .map(|(field, of_type, _)| format!("    {} {};", in_c(of_type), field_in_c(field)))
+            .map(|(field, of_type, _)| {
+                let (element, length) = element(of_type);
+                let places = length.map_or(String::new(), |length| format!("[{length}]"));
+                format!("    {} {}{places};", in_c(element), field_in_c(field))
+            })
             .collect();
         assert_eq!(body, wanted.join("\n"), "{name}");
         let mut numbers = vec![format!("SERKOVIU_LAYOUT({name}, {}, {});", layout.size, layout.alignment)];
@@ -169,6 +181,8 @@ fn calls_keep_to_the_device() {
     room.head.tick(false, 0, 0x80, 0, 0x80);
     room.head.telegram(0, &[0x42, 0x48, 0, 0, 0x80]).expect("five bytes");
     room.head.write(3, 23, 7, 0).expect("a number of ticks");
+    let pairs: Vec<u8> = (0..42u8).flat_map(|number| f32::from(number).to_be_bytes()).collect();
+    room.head.load(&pairs).expect("21 pairs");
     room.head.warm_start();
     assert_eq!((room.head.pack(&mut bytes), room.head.unpack(&bytes)), (0, 0));
     assert_eq!((room.before, room.after), ([0xA5; 64], [0x5A; 64]));
@@ -191,7 +205,7 @@ fn the_archive_reads_each_field_where_it_is_declared() {
     let s = &mut d.ain.settings;
     s.target = 0x10;
     (s.pv_scale, s.out_scale) = (scale(1.0, 2.0), scale(3.0, 4.0));
-    (s.pv_ftime, s.fsafe_type, s.fsafe_value, s.alarm_hys) = (5.0, 2, 6.0, 7.0);
+    (s.lin_type, s.pv_ftime, s.fsafe_type, s.fsafe_value, s.alarm_hys) = (1, 5.0, 2, 6.0, 7.0);
     (s.hi_hi_lim, s.hi_lim, s.lo_lim, s.lo_lo_lim) = (8.0, 9.0, 10.0, 11.0);
     (d.ain.state.out, d.ain.state.mode, d.ain.st_rev) = (pair(12.0, 0x81), 0x08, 1301);
     let s = &mut d.tot.settings;
@@ -205,7 +219,7 @@ fn the_archive_reads_each_field_where_it_is_declared() {
     (d.ao.state.out, d.ao.state.mode, d.ao.st_rev) = (pair(23.0, 0x83), 0x02, 2403);
 
     let float = |value: f32| value.to_bits();
-    let expected: [(u8, u8, u32, u32); 33] = [
+    let expected: [(u8, u8, u32, u32); 34] = [
         (0, 18, 0, 0),
         (1, 1, 1301, 0),
         (1, 5, 0x10, 0),
@@ -213,6 +227,7 @@ fn the_archive_reads_each_field_where_it_is_declared() {
         (1, 10, float(12.0), 0x81),
         (1, 11, float(1.0), float(2.0)),
         (1, 12, float(3.0), float(4.0)),
+        (1, 13, 1, 0),
         (1, 16, float(5.0), 0),
         (1, 17, 2, 0),
         (1, 18, float(6.0), 0),
@@ -281,6 +296,23 @@ fn the_archive_ticks_by_each_field_where_it_is_declared() {
     d.ain.settings.pv_ftime = 0.1;
     let next = tick(d, (20.0f32.to_bits(), 0x80)).0.ain.state;
     assert_eq!((next.out, next.filter, next.last), (pair(15.0, 0x80), some(15.0), some(15.0)));
+
+    // each place of the table by an input that is its x
+    let mut d = fresh;
+    (d.ain.settings.pv_scale, d.ain.settings.out_scale) = (scale(0.0, 1.0), scale(0.0, 1.0));
+    d.ain.settings.lin_type = 1;
+    for count in [2, 20, 21] {
+        d.ain.table.count = count;
+        for (place, point) in d.ain.table.points.iter_mut().enumerate() {
+            *point = Point { x: place as f32, y: 30.5 - place as f32 };
+        }
+        for place in 0..count {
+            let next = tick(d, ((place as f32).to_bits(), 0x80)).0.ain;
+            assert_eq!((next.state.out, next.table), (pair(30.5 - place as f32, 0x80), d.ain.table));
+        }
+        let after_the_last = tick(d, (25.0f32.to_bits(), 0x80)).0.ain.state.out;
+        assert_eq!(after_the_last, pair(31.5 - count as f32, 0x80));
+    }
 
     let mut d = fresh;
     d.tot.state.operator_status = 0xA7;

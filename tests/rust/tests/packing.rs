@@ -7,7 +7,7 @@ use comparison::compare::PARAMETERS;
 use comparison::histories::histories;
 use comparison::random::Random;
 
-const LAYOUT_VERSION: u32 = 1;
+const LAYOUT_VERSION: u32 = 2;
 const WRONG_LENGTH: u8 = 7;
 const NOT_A_DEVICE: u8 = 255;
 
@@ -32,13 +32,14 @@ fn described(d: &Device) -> Vec<u8> {
     let (s, t) = (&d.ain.settings, &d.ain.state);
     let mut words = vec![LAYOUT_VERSION, d.write_locking, s.target];
     words.extend([scale(s.pv_scale), scale(s.out_scale)].concat());
-    words.extend([s.pv_ftime.to_bits(), s.fsafe_type, s.fsafe_value.to_bits(), s.alarm_hys.to_bits()]);
+    words.extend([s.lin_type, s.pv_ftime.to_bits(), s.fsafe_type, s.fsafe_value.to_bits(), s.alarm_hys.to_bits()]);
     words.extend([s.hi_hi_lim, s.hi_lim, s.lo_lim, s.lo_lo_lim].map(f32::to_bits));
     words.extend(pair(t.out));
     words.push(t.mode);
     words.extend([kept(t.filter), kept(t.last), pair(t.operator)].concat());
     words.extend([t.alarms.hi_hi, t.alarms.hi, t.alarms.lo, t.alarms.lo_lo].map(u32::from));
-    words.push(d.ain.st_rev.into());
+    words.extend([d.ain.st_rev.into(), d.ain.table.count]);
+    words.extend(d.ain.table.points.map(|point| [point.x.to_bits(), point.y.to_bits()]).concat());
 
     let (s, t) = (&d.tot.settings, &d.tot.state);
     words.extend([s.target, s.set_tot, s.mode_tot, s.fail_tot, s.preset_tot.to_bits()]);
@@ -141,12 +142,15 @@ fn unpack_any(bytes: &[u8]) -> bool {
 }
 
 /// The kind of each word: V version, W any word, F float, S status, B flag, R ST_REV.
-const KINDS: [&str; 4] = ["VW", "WFFFFFWFFFFFFWSWBFBFWSBBBBR", "WWWWFWWWSWBFSR", "WFFFFWWFWWSWWSBFWBBFWBR"];
+fn kinds() -> String {
+    let table = "FF".repeat(21);
+    ["VW", "WFFFFWFWFFFFFFWSWBFBFWSBBBBR", "W", &table, "WWWWFWWWSWBFSR", "WFFFFWWFWWSWWSBFWBBFWBR"].concat()
+}
 
 /// What is refused of a word, by its kind alone.
 #[test]
 fn a_word_is_refused_by_its_kind() {
-    let kinds = KINDS.concat();
+    let kinds = kinds();
     assert_eq!(4 * kinds.len(), PACKED_BYTES);
     let words = [0, 1, 2, 0x80, 255, 256, 0xFFFF, 0x1_0000, 0x7F7F_FFFF, 0x7F80_0000, 0x7F80_0001, 0x7FC0_0000]
         .into_iter()

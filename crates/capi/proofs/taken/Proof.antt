@@ -5,7 +5,7 @@ use Rattle.capi.proofs.taken.Statement.{statement}
 use Rattle.capi.proofs.taken.Tie as tie
 
 returns : tie.Need-returns
-returns c = rw (c .answer-number .ensures, c .before .before .telegram .ensures)
+returns c = rw (c .numbered .ensures, c .before .telegram .ensures)
 
 pub taken-spec : {M : Type 1} → statement M
 taken-spec = tie.close (tie.spec (λ c κs. search needs) (λ c κs. search needs) returns)

@@ -5,7 +5,7 @@ use Rattle.capi.proofs.written.Statement.{statement}
 use Rattle.capi.proofs.written.Tie as tie
 
 returns : tie.Need-returns
-returns c = rw (c .answer-number .ensures, c .before .before .write .ensures)
+returns c = rw (c .numbered .ensures, c .before .write .ensures)
 
 pub written-spec : {M : Type 1} → statement M
 written-spec = tie.close (tie.spec (λ c κs. search needs) (λ c κs. search needs) returns)

@@ -6,12 +6,14 @@ use Rattle.packing.proofs.ain_at.Tie as tie
 
 returns : tie.Need-returns
 unfolding ainOf
-returns c = rw (c .half-at .ensures, c .before .ain-state-at .ensures, c .before .before .ain-settings-at .ensures)
+returns c = rw (c .table-at .ensures, c .before .half-at .ensures, c .before .before .ain-state-at .ensures, c .before .before .before .ain-settings-at .ensures)
 
 pub ain-at-spec : {M : Type 1} → statement M
 ain-at-spec =
     tie.close
     (tie.spec
+    (λ c κs. search needs)
+    (λ c. search needs)
     (λ c κs. search needs)
     (λ c. search needs)
     (λ c κs. search needs)

@@ -6,12 +6,14 @@ use Rattle.packing.proofs.ain_settings_at.Tie as tie
 
 returns : tie.Need-returns
 unfolding ainSettings
-returns c = rw (c .float-at7 .ensures, c .before .float-at6 .ensures, c .before .before .float-at5 .ensures, c .before .before .before .float-at4 .ensures, c .before .before .before .before .float-at3 .ensures, c .before .before .before .before .before .float-at2 .ensures, c .before .before .before .before .before .before .word-at2 .ensures, c .before .before .before .before .before .before .before .float-at .ensures, c .before .before .before .before .before .before .before .before .scale-at2 .ensures, c .before .before .before .before .before .before .before .before .before .scale-at .ensures, c .before .before .before .before .before .before .before .before .before .before .word-at .ensures)
+returns c = rw (c .float-at7 .ensures, c .before .float-at6 .ensures, c .before .before .float-at5 .ensures, c .before .before .before .float-at4 .ensures, c .before .before .before .before .float-at3 .ensures, c .before .before .before .before .before .float-at2 .ensures, c .before .before .before .before .before .before .word-at3 .ensures, c .before .before .before .before .before .before .before .float-at .ensures, c .before .before .before .before .before .before .before .before .word-at2 .ensures, c .before .before .before .before .before .before .before .before .before .scale-at2 .ensures, c .before .before .before .before .before .before .before .before .before .before .scale-at .ensures, c .before .before .before .before .before .before .before .before .before .before .before .word-at .ensures)
 
 pub ain-settings-at-spec : {M : Type 1} → statement M
 ain-settings-at-spec =
     tie.close
     (tie.spec
+    (λ c κs. search needs)
+    (λ c. search needs)
     (λ c κs. search needs)
     (λ c. search needs)
     (λ c κs. search needs)
