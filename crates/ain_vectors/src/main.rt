@@ -5,6 +5,7 @@
 ghost use Prim.Native.Nat.{_≤_};
 use ain::Settings;
 use ain::State;
+use linearisation::Table;
 use numbers::floats::float_of;
 use scaling::Scale;
 use wire::Pair;
@@ -45,8 +46,8 @@ fn print_state(st: State) {
     io::write_all(OUT, b"\n");
 }
 
-fn step(s: Settings, st: State, fault: bool, bits: u32, status: u8) -> State {
-    let next = ain::tick(s, st, fault, bits, status);
+fn step(s: Settings, table: Table, st: State, fault: bool, bits: u32, status: u8) -> State {
+    let next = ain::tick(s, table, st, fault, bits, status);
     io::print_decimal(OUT, fault as u64);
     io::write_all(OUT, b" ");
     print_pair(bits, status);
@@ -55,15 +56,15 @@ fn step(s: Settings, st: State, fault: bool, bits: u32, status: u8) -> State {
 }
 
 fn tick_bits(s: Settings, st: State, bits: u32, status: u8) -> State {
-    step(s, st, false, bits, status)
+    step(s, linearisation::none(), st, false, bits, status)
 }
 
 fn tick(s: Settings, st: State, x: f32, status: u8) -> State {
-    step(s, st, false, numbers::floats::bits_of(x), status)
+    tick_bits(s, st, numbers::floats::bits_of(x), status)
 }
 
 fn fault_tick(s: Settings, st: State, x: f32, status: u8) -> State {
-    step(s, st, true, numbers::floats::bits_of(x), status)
+    step(s, linearisation::none(), st, true, numbers::floats::bits_of(x), status)
 }
 
 // An accepted write of OUT.
@@ -107,6 +108,7 @@ fn settings(high: f32) -> Settings {
         target: blocks::AUTO,
         pv_scale: pv,
         out_scale: out,
+        lin_type: 0,
         pv_ftime: 0.0,
         fsafe_type: 1,
         fsafe_value: 0.0,
