@@ -149,25 +149,29 @@ fn last(x: u32) {
     io::write_all(OUT, b"\n");
 }
 
-// x rise as numbers: zeros of both signs are one number, one subnormal step is enough. Each of the four numbers is finite. The
-// last of 21 x lies above 20 subnormal steps.
 fn contents() {
     title(b"contents");
+    // zeros of both signs are one number, and do not rise
     pairs(0x80000000, 0x00000000, 0x00000000, 0x41200000);
     pairs(0x00000000, 0x00000000, 0x80000000, 0x41200000);
+    // equal x, falling x, falling below 0, where bits rise
     pairs(0x3f800000, 0x00000000, 0x3f800000, 0x41200000);
     pairs(0x3f800000, 0x00000000, 0x00000000, 0x41200000);
     pairs(0xbf800000, 0x00000000, 0xc0000000, 0x41200000);
+    // x that are not finite, though the infinite ones rise
     pairs(0xff800000, 0x00000000, 0x3f800000, 0x41200000);
     pairs(0x00000000, 0x00000000, 0x7f800000, 0x41200000);
     pairs(0x7fc00000, 0x00000000, 0x3f800000, 0x41200000);
     pairs(0x00000000, 0x00000000, 0xff800001, 0x41200000);
+    // y that are not finite
     pairs(0x00000000, 0x7f800000, 0x3f800000, 0x41200000);
     pairs(0x00000000, 0xff800000, 0x3f800000, 0x41200000);
     pairs(0x00000000, 0x00000000, 0x3f800000, 0x7fc00000);
+    // accepted: a subnormal step above -0, with equal y; rising below 0, with falling y; the ends of the finite numbers
     pairs(0x80000000, 0x41200000, 0x00000001, 0x41200000);
     pairs(0xc0000000, 0x41200000, 0xbf800000, 0x00000000);
     pairs(0xff7fffff, 0xff7fffff, 0x7f7fffff, 0x7f7fffff);
+    // the last of 21 x: equal to the one before, below it, infinite, and the largest single
     last(0x00000014);
     last(0x00000013);
     last(0x7f800000);
@@ -183,20 +187,22 @@ fn value(table: Table, bits: u32) {
     io::write_all(OUT, b"\n");
 }
 
-// At the first x, the inner and the last ones; between pairs; below the first x and above the last.
 fn weir() {
     title(b"pairs 0 0, 1 10, 4 70, 7 100");
     let loaded = linearisation::table_of(
         b"\x00\x00\x00\x00\x00\x00\x00\x00\x3f\x80\x00\x00\x41\x20\x00\x00\x40\x80\x00\x00\x42\x8c\x00\x00\x40\xe0\x00\x00\x42\xc8\x00\x00",
     );
     let t = loaded.table;
+    // at the first x (a zero of either sign), the inner ones, the last
     value(t, 0x00000000);
     value(t, 0x80000000);
     value(t, 0x3f800000);
     value(t, 0x40800000);
     value(t, 0x40e00000);
+    // between: 0.5, 5.5
     value(t, 0x3f000000);
     value(t, 0x40b00000);
+    // below the first x and above the last
     value(t, 0xbf800000);
     value(t, 0xff7fffff);
     value(t, 0x447a0000);
