@@ -26,21 +26,18 @@ class Table:
         self.asked, self.call = "the table " + shown(path, 200), "load, " + many(len(self.rows), "pair")
 
     def read(self, lines):
-        text = "".join(lines)
-        separator = next((mark for mark in ";\t" if mark in text), ",")
-        header = True
+        lines = ["" if line.lstrip().startswith("#") else line.strip(" \n") for line in lines]
+        separator = next((mark for mark in ";\t" if mark in "".join(lines)), ",")
+        first = True
         for row, line in enumerate(lines, 1):
-            line = line.strip(" \n")
-            if not line.strip(separator + " ") or line.startswith("#"):
+            if not line.strip(separator + " "):
                 continue
             try:
                 cells = cells_of(line, separator)
                 # the first line may have the names of the columns
-                if header and not any(number(cell) is not None for cell in cells):
-                    header = False
-                    continue
-                header = False
-                self.add(row, cells)
+                if not first or any(number(cell) is not None for cell in cells):
+                    self.add(row, cells)
+                first = False
             except Stop as stop:
                 raise Stop("row %d: %s" % (row, stop)) from None
         if not self.rows:
