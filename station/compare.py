@@ -30,6 +30,7 @@ try:
     import record as records
     from course import Columns, Course, Difference, Spells
     from head import LIMITS, TICK, Head, Write, alarm_mask, alarm_text, count_ticks, pieces, ticks_before
+    from linearisation import Table
     from picture import COLOURS, COLUMNS, Picture
     from text import Stop, many, number, of_single, plain, plain_single, read_again, rounded, shown
     from times import DAY, MINUTE, SECOND, decimals
@@ -47,6 +48,7 @@ RECORD-compare.svg, in the current folder; their names go to standard output, al
 
   --ftime S ..            the filter times
   --set NAME VALUE        a parameter of AIN: --set HI_LIM 80 --set PV_SCALE 0 250
+  --table FILE.csv        a weir's table, 2 to 21 rows of stage and discharge: it is loaded, and LIN_TYPE set to 1
   --every S               the table has a row each S seconds (0.1: every tick), not one for each of the record's
   --gap S                 a step longer than this is a gap, in which the head gets no value
                           (five usual steps; none: no step is, for records that have a row for each change)
@@ -124,7 +126,7 @@ class Progress:
 
 class Options:
     def __init__(self):
-        self.record = self.every = self.out = self.gap = None
+        self.record = self.every = self.out = self.gap = self.table = None
         self.ftimes = []
         self.sets = []
         self.missing = []
@@ -154,8 +156,8 @@ def understood(words):
             options.missing.append(taken(words, word, "a word"))
         elif word in ("--every", "--gap"):
             setattr(options, word[2:], taken(words, word, "seconds"))
-        elif word in ("--time", "--date", "--value", "--status", "--unit", "--out"):
-            setattr(options, word[2:], taken(words, word, "a path" if word == "--out" else "a name"))
+        elif word in ("--time", "--date", "--value", "--status", "--unit", "--out", "--table"):
+            setattr(options, word[2:], taken(words, word, "a path" if word in ("--out", "--table") else "a name"))
         elif word in ("--day-first", "--month-first"):
             order = word[2:].partition("-")[0]
             if options.order not in (None, order):
@@ -197,6 +199,8 @@ def judge(options):
         raise misused("--ftime has equal numbers")
     if any(write.name == "PV_FTIME" for write in options.sets):
         raise misused("--set PV_FTIME: filter times are given by --ftime")
+    if options.table is not None and not any(write.name == "LIN_TYPE" for write in options.sets):
+        options.sets.insert(0, Write("LIN_TYPE", ["1"]))
     if options.out == "":
         raise misused("--out wants a path")
     if options.every is not None:
@@ -326,8 +330,9 @@ def result_paths(options):
             base = os.path.splitext(base)[0]
     paths = [base + ".csv", base + ".svg"]
     for path in paths:
-        if os.path.exists(path) and os.path.samefile(path, options.record):
-            raise Stop("%s: is the record itself; give the results another name with --out" % shown(path, 200))
+        for what, source in (("record", options.record), ("table", options.table)):
+            if source is not None and os.path.exists(path) and os.path.samefile(path, source):
+                raise Stop("%s: is the %s itself; give the results another name with --out" % (shown(path, 200), what))
     return paths
 
 
@@ -337,8 +342,8 @@ def result_paths(options):
 class Scene:
     """All that table, picture and summary are made of."""
 
-    def __init__(self, options, record):
-        self.options, self.record = options, record
+    def __init__(self, options, record, table):
+        self.options, self.record, self.table = options, record, table
         self.start = record.times[0]
         self.ticks = count_ticks(record)
         self.usual = record.usual_step()
@@ -348,6 +353,7 @@ class Scene:
         self.difference = Difference()
         self.spells = Spells()
         self.recorded = Columns(self.ticks * TICK, COLUMNS)  # the record's line, its stretches apart
+        self.stage = Columns(self.ticks * TICK, COLUMNS)  # the same before a table, if there is one
         self.stretch = self.drawn_until = 0
         self.settings = {write.name: [of_single(word) for word in write.words] for write in options.sets}
         self.limits = {name: self.settings[name][0] for name in LIMITS if math.isfinite(self.settings.get(name, [math.inf])[0])}
@@ -356,17 +362,26 @@ class Scene:
         self.name_axis()
 
     def name_axis(self):
-        """What the upright axis is of. It is OUT's; the record is drawn as the head scales it."""
+        """What the upright axis is of. It is OUT's; the record is drawn as the head linearises and scales it."""
         low, high = self.settings.get("PV_SCALE", [0.0, 100.0])
         out_low, out_high = self.settings.get("OUT_SCALE", [0.0, 100.0])
         name = self.record.value_name if records.name_key(self.record.value_name) != "value" else ""
-        self.record_words = "record"
+        self.stage_name, self.record_words = name, "record"
+        linearises = [write.words for write in self.options.sets if write.name == "LIN_TYPE"][-1:] == [[1]]
+        self.drawn_table = self.table if linearises else None
         self.scaled = lambda value: value
+        if self.drawn_table:
+            self.record_words = "record; below by the table"
+            name = "OUT"
         if (low, high) != (out_low, out_high) and low != high:
             self.scaled = lambda value: out_low + (value - low) / (high - low) * (out_high - out_low)
-            self.record_words = "record, scaled as OUT"
+            self.record_words += ", scaled as OUT"
             name = "OUT"
         self.axis_name = name
+
+    def as_out(self, value):
+        """A reading as it is drawn."""
+        return self.scaled(self.drawn_table.value(value) if self.drawn_table else value)
 
     def pieces(self):
         return pieces(self.record, self.usual, self.gap)
@@ -402,6 +417,10 @@ class Scene:
             say("and %s" % many(gaps - TOLD_GAPS, "more gap"))
         if unseen:
             say("%s between two ticks: a head never sees %s" % (many(unseen, "reading"), "it" if unseen == 1 else "them"))
+        outside = sum(not self.table.xs[0] <= value <= self.table.xs[-1] for value in self.record.values if value == value) if self.drawn_table else 0
+        if outside:
+            say("%s outside the table, x from %s to %s: there the y of its end holds" % (
+                many(outside, "reading"), plain(self.table.xs[0]), plain(self.table.xs[-1])))
         if not self.record.has_status:
             say("no column status: every reading is taken as Good, 0x80")
         least = min(self.courses, key=lambda course: course.ftime or math.inf)
@@ -419,7 +438,9 @@ class Scene:
             # a break within one column of the picture would not be seen
             if self.drawn_until != place and self.recorded.column(self.drawn_until) != self.recorded.column(place):
                 self.stretch += 1
-            self.recorded.add_level(place, until, self.scaled(value), self.stretch)
+            self.recorded.add_level(place, until, self.as_out(value), self.stretch)
+            if self.drawn_table:
+                self.stage.add_level(place, until, value, self.stretch)
             self.drawn_until = until
 
     # ---- the table
@@ -448,7 +469,8 @@ class Scene:
 
     def run(self, program, table, progress):
         """Sends the record through a head for each filter time, all in step, and writes the table as they go."""
-        heads = [Head(program, self.options.sets + [write], self.pieces) for _, write in self.options.ftimes]
+        first = [self.table] * (self.table is not None) + self.options.sets
+        heads = [Head(program, first + [write], self.pieces) for _, write in self.options.ftimes]
         try:
             for head in heads:
                 head.start()
@@ -496,6 +518,8 @@ class Scene:
         record = self.record
         self.told.append("%s from %s to %s, usual step %s s, {:,} ticks".format(self.ticks) % (
             many(len(record.times), "reading"), record.time_text(0), record.time_text(len(record.times) - 1), plain(self.usual / SECOND)))
+        if self.table:
+            self.told.append(self.table.told() + ("" if self.drawn_table else ", not used"))
         for course in self.courses:
             self.told.append("PV_FTIME %s: %s; %s" % (course.words, self.alarms_told(course), self.quality_told(course)))
         if len(self.courses) > 1:
@@ -520,15 +544,19 @@ class Scene:
         return "OUT not Good in %s, %s" % (many(course.not_good, "tick"), many(course.spells, "spell"))
 
 
+def is_pipe(path):
+    return os.path.exists(path) and not os.path.isfile(path) and not os.path.isdir(path)
+
+
 def compare(program, options, progress):
-    if program == LOOK and not os.path.isfile(options.record) and os.path.exists(options.record) and not os.path.isdir(options.record):
-        return  # a pipe can be read once
+    if program == LOOK and any(path is not None and is_pipe(path) for path in (options.record, options.table)):
+        return  # it can be read once
     try:
         record = records.read(options.record, options, progress)
     except Stop as stop:
         raise Stop("%s: %s" % (shown(options.record, 200), stop)) from None
     progress.clear()
-    scene = Scene(options, record)
+    scene = Scene(options, record, None if options.table is None else Table(options.table))
     if program == LOOK:
         result_paths(options)
         return

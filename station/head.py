@@ -27,6 +27,7 @@ PARAMETERS = {
     "OUT": (10, "float code", "float, finite; status 0 to 255"),
     "PV_SCALE": (11, "float float", "low, high: floats, finite, unequal"),
     "OUT_SCALE": (12, "float float", "low, high: floats, finite, unequal"),
+    "LIN_TYPE": (13, "code", "0 to 1"),
     "PV_FTIME": (16, "float", "float, 0 to 3,600"),
     "FSAFE_TYPE": (17, "code", "0 to 2"),
     "FSAFE_VALUE": (18, "float", "float, finite"),
@@ -39,7 +40,7 @@ PARAMETERS = {
 ALARM_NAMES = {1: "HI_HI", 2: "HI", 4: "LO", 8: "LO_LO"}
 LIMITS = ("HI_HI_LIM", "HI_LIM", "LO_LIM", "LO_LO_LIM")
 
-# the grounds of refusal that a write or a read can meet
+# the grounds of refusal that a write, a read or a load can meet
 REFUSALS = {
     1: "no such block",
     2: "no such parameter",
@@ -47,6 +48,8 @@ REFUSALS = {
     4: "writes are locked",
     5: "words not allowed",
     6: "TARGET_MODE is not Man",
+    9: "not 2 to 21 pairs",
+    10: "x do not rise, or a number is not finite",
 }
 
 OUT_READ = b"read %d %d" % (AIN, PARAMETERS["OUT"][0])
@@ -108,6 +111,13 @@ class Write:
                 raise Stop("%s: %s is no %s" % (name, shown(text), wanted), 2)
             self.words.append(value)
         self.line = "write %d %d %s" % (AIN, number_, " ".join("0x%08X" % value if value > 255 else str(value) for value in (self.words + [0])[:2]))
+        self.call = self.line
+
+    def hint(self, ground):
+        """More about a refusal: what is allowed."""
+        if ground != 5:
+            return ""
+        return ", " + self.allowed.replace("float, ", "") + ("; 1 wants a table, --table FILE" if (self.name, self.words) == ("LIN_TYPE", [1]) else "")
 
     @staticmethod
     def count(name):
@@ -116,17 +126,15 @@ class Write:
 
 
 def judge_write(answer, write):
-    """Stops unless a write was accepted."""
+    """Stops unless a write, or the load of a table, was accepted."""
     if answer == b"ok\n":
         return
     refused = re.fullmatch(rb"refused ([0-9]{1,9})\n", answer)
     if not refused:
-        raise not_understood(answer, write.line, write.asked)
+        raise not_understood(answer, write.call, write.asked)
     ground = int(refused[1])
-    meaning = REFUSALS.get(ground, "a ground that is not known here")
-    if ground == 5:
-        meaning += ", " + write.allowed.replace("float, ", "")
-    raise Stop("the head refused %s (%s) as %d: %s" % (write.asked, write.line, ground, meaning))
+    meaning = REFUSALS.get(ground, "a ground that is not known here") + write.hint(ground)
+    raise Stop("the head refused %s (%s) as %d: %s" % (write.asked, write.call, ground, meaning))
 
 
 def not_understood(answer, line, purpose):

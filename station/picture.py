@@ -9,6 +9,7 @@ from text import plain, rounded
 from times import DAY, HOUR, MINUTE, SECOND
 
 WIDTH, PLOT_WIDTH, PLOT_HEIGHT = 960, 880, 320
+STAGE_HEIGHT, TABLE_WIDTH = 120, 190  # of the two plots more that a table has
 LEFT, BELOW = 64, 62
 RIGHT = LEFT + PLOT_WIDTH
 EDGE = WIDTH - 8  # up to which words may go
@@ -58,11 +59,11 @@ def nice_step(span, most):
 class Scale:
     """The upright axis: ends at whole steps around what has to be seen."""
 
-    def __init__(self, low, high):
+    def __init__(self, low, high, most=8):
         least = max(abs(low), abs(high)) * 1e-5
         if high - low <= least:
             low, high = low - (least or 1), high + (least or 1)
-        self.step = nice_step(high - low, 8)
+        self.step = nice_step(high - low, most)
         self.first, self.last = math.floor(low / self.step + 1e-9), math.ceil(high / self.step - 1e-9)
 
     def up(self, value):
@@ -120,17 +121,24 @@ def dot(x, y, name, colour, kind, told):
 
 
 class Picture:
+    """One plot; with a table the stage has a plot of its own over it, and the table's line one to its right."""
+
     def __init__(self, scene):
-        self.scene = scene
+        self.scene, self.table = scene, scene.drawn_table
         self.start = scene.record.times[0]
         self.span = scene.ticks * TICK
-        self.recorded = scene.recorded.points()
+        self.recorded, self.stage = scene.recorded.points(), scene.stage.points()
         self.given = [self.given_points(course) for course in scene.courses]
+        self.stage_scale = self.found_stage_scale() if self.table else None
         self.scale = self.found_scale()
         # long numbers at the upright axis take their room from the plot
-        self.left = max(LEFT, 29 + max(wide(words) for _, words in self.scale.marks()))
+        marks = [words for scale in (self.scale, self.stage_scale) if scale for _, words in scale.marks()]
+        self.left = max(LEFT, 29 + max(map(wide, marks)))
+        self.right = RIGHT - TABLE_WIDTH - 40 if self.table else RIGHT
+        self.edge = self.right + 14 if self.table else WIDTH  # up to which words at the time axis may go
         self.legend = self.made_legend()
-        self.top = self.legend.y + 25
+        self.upper = self.legend.y + 25  # end of the uppermost plot
+        self.top = self.upper + (STAGE_HEIGHT + 24 if self.table else 0)
         self.bottom = self.top + PLOT_HEIGHT
         self.height = self.bottom + BELOW
         self.taken = []  # by words in the plot: left, right and base line of each
@@ -145,7 +153,8 @@ class Picture:
         return points
 
     def found_scale(self):
-        values = [point[1] for points in [self.recorded] + self.given for point in points]
+        lines = [self.recorded] + self.given + ([self.table_points()] if self.table else [])
+        values = [point[1] for points in lines for point in points]
         low, high = min(values), max(values)
         # a limit that is far from all values is named but not reached for
         room = (high - low) or 1
@@ -154,11 +163,16 @@ class Picture:
         room = (high - low) / 40
         return Scale(max(low - room, 0) if low >= 0 else low - room, high + room)
 
+    def found_stage_scale(self):
+        """What the record has before the table; where it has nothing, what the table has."""
+        values = [point[1] for point in self.stage] or self.table.xs
+        return Scale(min(values), max(values), 4)
+
     # ---- places
 
     def across(self, place):
         """Pixels from the left, for microseconds from the start."""
-        return self.left + (RIGHT - self.left) * place / self.span
+        return self.left + (self.right - self.left) * place / self.span
 
     def up(self, value):
         return self.bottom - PLOT_HEIGHT * self.scale.up(value)
@@ -199,7 +213,10 @@ class Picture:
         self.bands()
         self.upright_axis()
         self.time_axis()
-        self.recorded_line()
+        if self.table:
+            self.stage_plot()
+            self.table_plot()
+        self.recorded_line("record", self.recorded, self.up)
         for points, colour in zip(self.given, COLOURS):
             self.given_line(points, colour)
         self.limits()
@@ -214,7 +231,7 @@ class Picture:
         for kind, colour in BANDS.items():
             drawn = []
             for begin, end in ((begin, end) for name, begin, end in self.scene.spells.list if name == kind):
-                x, until = self.across(begin), min(self.across(end), RIGHT)
+                x, until = self.across(begin), min(self.across(end), self.right)
                 if drawn and x - drawn[-1][1] < 0.7:  # nearer than the eye can part
                     drawn[-1][1] = until
                 else:
@@ -222,7 +239,7 @@ class Picture:
             if drawn:
                 self.add('<g class="%s" fill="%s">', kind.replace(" ", "-"), colour)
                 for x, until in drawn:
-                    self.add('<rect x="%.1f" y="%d" width="%.1f" height="%d"/>', x, self.top, max(until - x, 0.8), PLOT_HEIGHT)
+                    self.add('<rect x="%.1f" y="%d" width="%.1f" height="%d"/>', x, self.upper, max(until - x, 0.8), self.bottom - self.upper)
                 self.add("</g>")
             for x, until in drawn:
                 if until - x > wide(kind) + 4:
@@ -231,7 +248,7 @@ class Picture:
 
     def upright_axis(self):
         for value, words in self.scale.marks():
-            self.add('<path d="M%.1f,%.1fH%d" stroke="#e2e2e2"/>', self.left, self.up(value), RIGHT)
+            self.add('<path d="M%.1f,%.1fH%d" stroke="#e2e2e2"/>', self.left, self.up(value), self.right)
             self.text(self.left - 7, self.up(value) + 4, words, anchor="end")
         label = self.axis_label(PLOT_HEIGHT)
         if label:
@@ -249,7 +266,7 @@ class Picture:
 
     def time_axis(self):
         form = self.scene.record.form
-        self.add('<path d="M%.1f,%dV%dH%d" fill="none" stroke="#666"/>', self.left, self.top, self.bottom, RIGHT)
+        self.add('<path d="M%.1f,%dV%dH%d" fill="none" stroke="#666"/>', self.left, self.top, self.bottom, self.right)
         if form.kind == "seconds":
             step, words = self.step_of_seconds(), lambda time: plain(time / SECOND)
         else:
@@ -260,24 +277,24 @@ class Picture:
             x = self.across(time - self.start)
             self.add('<path d="M%.1f,%dv5" stroke="#666"/>', x, self.bottom)
             half = wide(words(time)) / 2
-            middle = min(x, WIDTH - 2 - half)
+            middle = min(x, self.edge - 2 - half)
             if middle - half > until:
                 self.text(middle, self.bottom + 18, words(time), anchor="middle")
                 until = middle + half + 4
         if form.kind != "seconds" and step < DAY:
             self.days(form)
         name = self.scene.record.time_name + (", seconds" if form.kind == "seconds" else "") + (" (%s)" % form.zone if form.zone else "")
-        self.text((LEFT + RIGHT) / 2, self.bottom + BELOW - 10, short(name, PLOT_WIDTH), anchor="middle")
+        self.text((LEFT + self.right) / 2, self.bottom + BELOW - 10, short(name, self.right - LEFT), anchor="middle")
 
     def step_of_seconds(self):
         """As many marks as fit beside each other, 13 at most."""
         widest = max(wide(plain(time // SECOND)) for time in (self.start, self.start + self.span)) + 30
-        most = max(2, min(13, int((RIGHT - self.left) / widest)))
+        most = max(2, min(13, int((self.right - self.left) / widest)))
         return max(1, round(nice_step(self.span / SECOND, most) * SECOND))
 
     def most_marks(self, step):
         """So many marks of a step fit beside each other with their words."""
-        return (RIGHT - self.left) / (62 if MINUTE <= step < DAY else 92)
+        return (self.right - self.left) / (62 if MINUTE <= step < DAY else 92)
 
     def time_words(self, form, step):
         if step >= DAY:
@@ -290,21 +307,21 @@ class Picture:
         midnights = list(range(-(-self.start // DAY) * DAY, self.start + self.span, DAY))
         places = [(self.across(time - self.start), name(time)) for time in midnights]
         for x, _ in places:
-            self.add('<path class="midnight" d="M%.1f,%dV%d" stroke="#bbb"/>', x, self.top, self.bottom + 24)
+            self.add('<path class="midnight" d="M%.1f,%dV%d" stroke="#bbb"/>', x, self.upper, self.bottom + 24)
         if form.kind == "date" and (not places or places[0][0] > self.left + 84):
             places.insert(0, (self.left, name(self.start)))
         until = 0
         for x, words in places:
-            if x >= until and x + 3 + wide(words) < WIDTH:
+            if x >= until and x + 3 + wide(words) < self.edge:
                 self.text(x + 3, self.bottom + 34, words, "#555")
                 until = x + wide(words) + 8
 
     # ---- lines
 
-    def recorded_line(self):
+    def recorded_line(self, name, points, up):
         """The record, with a break wherever it has no usable value."""
-        stretches = itertools.groupby(self.recorded, lambda point: point[2])
-        self.path("record", [self.way([(self.across(place), self.up(value)) for place, value, _ in run]) for _, run in stretches], GREY, 0.9)
+        stretches = itertools.groupby(points, lambda point: point[2])
+        self.path(name, [self.way([(self.across(place), up(value)) for place, value, _ in run]) for _, run in stretches], GREY, 0.9)
 
     def given_line(self, points, colour):
         """OUT, solid where it is Good; a stretch with an end that is not is dotted."""
@@ -321,19 +338,19 @@ class Picture:
             if not self.in_sight(limit):
                 continue
             y = self.up(limit)
-            self.add('<path class="limit" d="M%.1f,%.1fH%d" stroke="%s" stroke-width="1" stroke-dasharray="7 5"/>', self.left, y, RIGHT, RED)
+            self.add('<path class="limit" d="M%.1f,%.1fH%d" stroke="%s" stroke-width="1" stroke-dasharray="7 5"/>', self.left, y, self.right, RED)
             words = "%s %s" % (name, rounded(limit))
             self.text(*self.free_place(y, wide(words)), words, RED, "end", ' stroke="#fff" stroke-width="3" paint-order="stroke"')
 
     def free_place(self, y, width):
         """Where the name of a line ends: at its right end over the line or else under it, or further left, where no words are yet."""
-        for right in range(RIGHT - 6, int(self.left + width), -40):
+        for right in range(self.right - 6, int(self.left + width), -40):
             for base in (y - 5, y + 14):
                 others = (at for at in self.taken if abs(at[2] - base) < SIZE + 2 and at[0] < right + 6 and right - width - 6 < at[1])
                 if self.top - 8 < base < self.bottom and not any(others):
                     self.taken.append((right - width, right, base))
                     return right, base
-        return RIGHT - 6, y - 5
+        return self.right - 6, y - 5
 
     def in_sight(self, value):
         return -1e-9 <= self.scale.up(value) <= 1 + 1e-9
@@ -343,6 +360,50 @@ class Picture:
             for rise, _, value in alarm.times:
                 told = "%s rose %s" % (name, self.scene.tick_text(rise))
                 self.parts.append(dot(self.across(rise * TICK), self.up(value), name, colour, "rise", told))
+
+    # ---- the plots of a table
+
+    def stage_plot(self):
+        """The record as it is before the table."""
+        bottom = self.upper + STAGE_HEIGHT
+        up = lambda value: bottom - STAGE_HEIGHT * self.stage_scale.up(value)
+        for value, words in self.stage_scale.marks():
+            self.add('<path d="M%.1f,%.1fH%d" stroke="#e2e2e2"/>', self.left, up(value), self.right)
+            self.text(self.left - 7, up(value) + 4, words, anchor="end")
+        self.add('<path d="M%.1f,%dV%dH%d" fill="none" stroke="#666"/>', self.left, self.upper, bottom, self.right)
+        self.text(0, 0, short(self.scene.stage_name, STAGE_HEIGHT), anchor="middle",
+            more=' transform="translate(15,%.1f) rotate(-90)"' % (self.upper + STAGE_HEIGHT / 2))
+        self.recorded_line("stage", self.stage, up)
+
+    def table_points(self):
+        """(x, OUT) of the table's line over the stages that the record has: its pairs, and the ends."""
+        scale = self.stage_scale
+        low, high = scale.first * scale.step, scale.last * scale.step
+        xs = [low] + [x for x in self.table.xs if low < x < high] + [high]
+        return [(x, self.scene.as_out(x)) for x in xs]
+
+    def table_plot(self):
+        """OUT over stage, with the upright axis of the plot to its left."""
+        scale, left = self.stage_scale, RIGHT - TABLE_WIDTH
+        across = lambda x: left + TABLE_WIDTH * scale.up(x)
+        for value, _ in self.scale.marks():
+            self.add('<path d="M%d,%.1fH%d" stroke="#e2e2e2"/>', left, self.up(value), RIGHT)
+        self.add('<path d="M%d,%dV%dH%d" fill="none" stroke="#666"/>', left, self.top, self.bottom, RIGHT)
+        until = self.edge
+        for value, words in scale.marks():
+            x, half = across(value), wide(words) / 2
+            self.add('<path d="M%.1f,%dv5" stroke="#666"/>', x, self.bottom)
+            middle = min(x, WIDTH - 2 - half)
+            if middle - half > until:
+                self.text(middle, self.bottom + 18, words, anchor="middle")
+                until = middle + half + 4
+        points = [(across(x), self.up(y)) for x, y in self.table_points()]
+        self.path("table", [self.way(points)], "#444", 1.4)
+        for x, y in points:
+            if any(abs(across(pair) - x) < 0.05 for pair in self.table.xs):
+                self.add('<circle class="pair" cx="%.1f" cy="%.1f" r="2.2" fill="#444"/>', x, y)
+        self.text(left + TABLE_WIDTH / 2, self.top - 8, short(self.table.name, TABLE_WIDTH), "#555", "middle")
+        self.text(left + TABLE_WIDTH / 2, self.bottom + BELOW - 10, short(self.scene.stage_name, TABLE_WIDTH), anchor="middle")
 
     # ---- the legend
 

@@ -149,7 +149,8 @@ module _ (s : Settings) (table : Table) (st : State) (mode bits status : ℕ) wh
       go false ea true eb c ec d ed =
           let q : good status ≡ false = other-quality status 0 eb refl in
           bad-outcome status q ∙ sym (ap (λ (g : Bool). g && finite pv) q)
-      go false ea false eb false ec d ed = bad-outcome 0x10 refl ∙ sym (and-false (good status) (finite pv) (calculated-unfinished s table (st .filter) bits ec))
+      go false ea false eb false ec d ed =
+          bad-outcome 0x10 refl ∙ sym (and-false (good status) (finite pv) (calculated-unfinished s table (st .filter) bits ec))
       go false ea false eb true ec false ed =
           bad-outcome 0x04 refl ∙ sym (and-false (good status) (finite pv) (not-both (finite (scaledValue s table bits)) refl ed))
       go false ea false eb true ec true ed =
@@ -193,7 +194,8 @@ calculated-fits s table old bits = go (eq (s .«pv_ftime») (ofInt binary32 (pos
 fail-safe-finite : (s : Settings) (table : Table) (st : State) → FiniteStore s st → (bits bad : ℕ)
     → finite (floatOf (failSafeOut (s .«fsafe_type») (s .«fsafe_value») (st .last) (scaledValue s table bits) (st .out) bad .bits)) ≡ true
 unfolding failSafeOut ofBits
-fail-safe-finite s table st h bits bad = go (eqb (s .«fsafe_type») 0) (eqb (s .«fsafe_type») 1) (st .last .some) (h .last) (finite (scaledValue s table bits)) refl
+fail-safe-finite s table st h bits bad =
+    go (eqb (s .«fsafe_type») 0) (eqb (s .«fsafe_type») 1) (st .last .some) (h .last) (finite (scaledValue s table bits)) refl
   where
     go : (a b c : Bool) → (c ≡ true → Finite (st .last .value)) → (d : Bool) → finite (scaledValue s table bits) ≡ d
         → finite (floatOf (cond {A = Pair} a (record { bits = bitsOf (s .«fsafe_value»); status = 0x48 })
@@ -219,7 +221,8 @@ module _ (s : Settings) (table : Table) (st : State) (h : FiniteStore s st) (mod
 
       go : (a b c d e : Bool) → finite pv ≡ e
           → finite (floatOf
-          (autoBy s table st mode bits status (cond a (Bad 0x04) (cond b (Bad status) (cond c (Bad 0x10) (cond (not (d && e)) (Bad 0x04) Usable)))) .out .bits))
+          (autoBy s table st mode bits status
+          (cond a (Bad 0x04) (cond b (Bad status) (cond c (Bad 0x10) (cond (not (d && e)) (Bad 0x04) Usable)))) .out .bits))
           ≡ true
       go true b c d e p = held 0x04
       go false true c d e p = held status

@@ -1,10 +1,12 @@
-// Ticks of AIN worked from document 01, one line each: fault flag, transducer's bits and status, then OUT's bits and status, the
-// actual mode and the alarm byte; so too a write of OUT and a warm start. The expected lines were worked apart from this code, in
-// exact fractions rounded to singles. What it would catch: a rounding too many or too few, scaling in another order or left out,
-// a filter filled or emptied by the wrong tick, the status or the value of another cause, an alarm moved by the wrong limit.
+// Ticks of AIN worked from documents 01 and 02, request 1, one line each: fault flag, transducer's bits and status, then OUT's bits
+// and status, the actual mode and the alarm byte; so too a write of OUT and a warm start. The expected lines were worked apart from
+// this code, in exact fractions rounded to singles. What it would catch: a rounding too many or too few, scaling in another order or
+// left out, a filter filled or emptied by the wrong tick, the status or the value of another cause, an alarm moved by the wrong
+// limit, a table used under LIN_TYPE 0, after scaling or for usable ticks alone.
 ghost use Prim.Native.Nat.{_≤_};
 use ain::Settings;
 use ain::State;
+use linearisation::Table;
 use numbers::floats::float_of;
 use scaling::Scale;
 use wire::Pair;
@@ -45,8 +47,8 @@ fn print_state(st: State) {
     io::write_all(OUT, b"\n");
 }
 
-fn step(s: Settings, st: State, fault: bool, bits: u32, status: u8) -> State {
-    let next = ain::tick(s, st, fault, bits, status);
+fn step(s: Settings, table: Table, st: State, fault: bool, bits: u32, status: u8) -> State {
+    let next = ain::tick(s, table, st, fault, bits, status);
     io::print_decimal(OUT, fault as u64);
     io::write_all(OUT, b" ");
     print_pair(bits, status);
@@ -55,15 +57,27 @@ fn step(s: Settings, st: State, fault: bool, bits: u32, status: u8) -> State {
 }
 
 fn tick_bits(s: Settings, st: State, bits: u32, status: u8) -> State {
-    step(s, st, false, bits, status)
+    step(s, linearisation::none(), st, false, bits, status)
 }
 
 fn tick(s: Settings, st: State, x: f32, status: u8) -> State {
-    step(s, st, false, numbers::floats::bits_of(x), status)
+    tick_bits(s, st, numbers::floats::bits_of(x), status)
 }
 
 fn fault_tick(s: Settings, st: State, x: f32, status: u8) -> State {
-    step(s, st, true, numbers::floats::bits_of(x), status)
+    step(
+        s,
+        linearisation::none(),
+        st,
+        true,
+        numbers::floats::bits_of(x),
+        status,
+    )
+}
+
+// By a table.
+fn tabled(s: Settings, table: Table, st: State, bits: u32, status: u8) -> State {
+    step(s, table, st, false, bits, status)
 }
 
 // An accepted write of OUT.
@@ -107,6 +121,7 @@ fn settings(high: f32) -> Settings {
         target: blocks::AUTO,
         pv_scale: pv,
         out_scale: out,
+        lin_type: 0,
         pv_ftime: 0.0,
         fsafe_type: 1,
         fsafe_value: 0.0,
@@ -585,6 +600,108 @@ fn warm_start() {
     st = tick(s, st, 50.0, 0x80);
 }
 
+fn table_of(bytes: &[u8]) -> Table {
+    let loaded = linearisation::table_of(bytes);
+    loaded.table
+}
+
+// Pairs 0 0, 1 10, 4 70, 7 100.
+fn weir() -> Table {
+    table_of(
+        b"\x00\x00\x00\x00\x00\x00\x00\x00\x3f\x80\x00\x00\x41\x20\x00\x00\x40\x80\x00\x00\x42\x8c\x00\x00\x40\xe0\x00\x00\x42\xc8\x00\x00",
+    )
+}
+
+// Pairs 0 0, 2 100.
+fn line() -> Table {
+    table_of(b"\x00\x00\x00\x00\x00\x00\x00\x00\x40\x00\x00\x00\x42\xc8\x00\x00")
+}
+
+// Pairs 0 -3e38, 2 3e38, whose span of y overflows.
+fn wide() -> Table {
+    table_of(b"\x00\x00\x00\x00\xff\x61\xb1\xe6\x40\x00\x00\x00\x7f\x61\xb1\xe6")
+}
+
+// LIN_TYPE 0 leaves a loaded table unused. LIN_TYPE 1: 1.9 gives 28, an inner x its y; below the first x and from the last one on
+// the end's y. Linearised first and then scaled, in an unusable tick too: 112 by scales 0, 50 and 0, 200, and not 100.
+fn by_table() {
+    title(b"LIN_TYPE");
+    let t = weir();
+    let mut st = ain::fresh();
+    let mut s = defaults();
+    st = tabled(s, t, st, 0x3ff33333, 0x80);
+    s.lin_type = 1;
+    st = tabled(s, t, st, 0x3ff33333, 0x80);
+    st = tabled(s, t, st, 0x40800000, 0x80);
+    st = tabled(s, t, st, 0xbf800000, 0x80);
+    st = tabled(s, t, st, 0x40e00000, 0x80);
+    st = tabled(s, t, st, 0x447a0000, 0x80);
+    s.pv_scale = scale(0.0, 50.0);
+    s.out_scale = scale(0.0, 200.0);
+    st = tabled(s, t, st, 0x3ff33333, 0x80);
+    st = tabled(s, t, st, 0x40800000, 0x4c);
+    s.fsafe_type = 2;
+    st = tabled(s, t, st, 0x3ff33333, 0x0d);
+}
+
+// LIN_TYPE 1 in unusable ticks, under type 2: Bad and Good Cascade inputs are linearised (28, 70). A value that is not finite is not,
+// -infinity is not below the first x, and the cause stays 0x10. A line that overflows, and one that gives a NaN at its own pair
+// (0 times infinity), count as 0x04 with the old OUT, and under type 1 with the last usable value (80). The last pair's y overflows
+// nowhere.
+fn by_table_unusable() {
+    title(b"LIN_TYPE and unusable ticks");
+    let t = weir();
+    let w = wide();
+    let mut st = ain::fresh();
+    let mut s = defaults();
+    s.lin_type = 1;
+    s.fsafe_type = 2;
+    st = tabled(s, t, st, 0x3ff33333, 0x0d);
+    st = tabled(s, t, st, 0x40800000, 0xc3);
+    st = tabled(s, t, st, 0x7fc00000, 0x80);
+    st = tabled(s, t, st, 0x7f800000, 0x80);
+    st = tabled(s, t, st, 0xff800000, 0x40);
+    st = tabled(s, t, st, 0xff800000, 0x0d);
+    st = tabled(s, w, st, 0x3f800000, 0x80);
+    st = tabled(s, w, st, 0x00000000, 0x80);
+    st = tabled(s, w, st, 0x3f800000, 0x0d);
+    st = tabled(s, t, st, 0x40a00000, 0x80);
+    s.fsafe_type = 1;
+    st = tabled(s, w, st, 0x3f800000, 0x80);
+    s = identity();
+    s.lin_type = 1;
+    st = tabled(s, w, st, 0x40000000, 0x80);
+}
+
+// The filter value is a PV, and stays over another table (28 and 50 give 39) and over LIN_TYPE 0 (39 and 1 give 20).
+fn by_table_filtered() {
+    title(b"LIN_TYPE and filter");
+    let mut st = ain::fresh();
+    let mut s = identity();
+    s.lin_type = 1;
+    s.pv_ftime = 0.1;
+    st = tabled(s, weir(), st, 0x3ff33333, 0x80);
+    st = tabled(s, line(), st, 0x3f800000, 0x80);
+    s.lin_type = 0;
+    st = tabled(s, line(), st, 0x3f800000, 0x80);
+}
+
+// Alarms go by the linearised value: 80 rises, 79.53125 keeps, 79.375 falls; 5 is low; another table, and 87.5 is high again.
+fn by_table_alarms() {
+    title(b"LIN_TYPE and alarms");
+    let t = weir();
+    let mut st = ain::fresh();
+    let mut s = identity();
+    s.lin_type = 1;
+    s.hi_lim = 80.0;
+    s.lo_lim = 5.0;
+    st = tabled(s, t, st, 0x40a00000, 0x80);
+    st = tabled(s, t, st, 0x409e8000, 0x80);
+    st = tabled(s, t, st, 0x409e0000, 0x80);
+    st = tabled(s, t, st, 0x3f000000, 0x80);
+    st = tabled(s, line(), st, 0x3fe00000, 0x80);
+}
+
 fn main() {
     points();
     rounding();
@@ -605,4 +722,8 @@ fn main() {
     man();
     out_of_service();
     warm_start();
+    by_table();
+    by_table_unusable();
+    by_table_filtered();
+    by_table_alarms();
 }

@@ -1,4 +1,5 @@
--- The calls on a device, document 01, Calls on the device and Refused calls, and document 02, request 1. A refused call leaves the device as it was. Assumes nothing.
+-- The calls on a device, document 01, Calls on the device and Refused calls, and document 02, request 1. A refused call leaves the device as it was.
+-- Assumes nothing.
 use Prim.Native.Nat.{ℕ}
 use mathlib.Core.Bool.{Bool, true, cond}
 use mathlib.Core.List.{List}

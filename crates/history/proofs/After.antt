@@ -12,11 +12,11 @@ use Rattle.wire.specs.declared.Answer.{Answer}
 use Rattle.wire.specs.Image.{imageBytes}
 use Rattle.device.specs.declared.Device.{Device}
 use Rattle.device.specs.Read.{readOf}
-use Rattle.device.specs.Calls.{tickOf, writeOf, telegramOf}
+use Rattle.device.specs.Calls.{tickOf, writeOf, telegramOf, loadOf}
 use Rattle.history.specs.declared.Replayed.{Replayed}
 use Rattle.history.specs.Past.{History, start, _▷_}
-use Rattle.history.specs.Calls.{Call, tick, write, Event, fitting, allFit, after, event, reachedFrom, traceFrom, reached, trace}
-use Rattle.history.specs.Rules.{accepted, reading, total, order, toWrite, toTelegram}
+use Rattle.history.specs.Calls.{Call, tick, write, load, Event, fitting, allFit, after, event, reachedFrom, traceFrom, reached, trace}
+use Rattle.history.specs.Rules.{accepted, reading, total, order, toWrite, toTelegram, toLoad}
 use Rattle.history.specs.Rules as Rules
 use Rattle.history.specs.Claim.{answers, Claim}
 use Rattle.history.specs.Encoded.{callsFrom, decoded, Replays, listed, heard}
@@ -84,6 +84,10 @@ module _ (s : List ℕ) (bytes : (i : ℕ) → getD s i 0 < 256) (r : Replayed) 
   pub telegram-is : (input : ℕ) (lent : List ℕ) → telegramOf (r .device) input lent .answer ≡ toTelegram input lent
   unfolding event
   telegram-is input lent = ap (λ (d : Device). telegramOf d input lent .answer) is ∙ claimed .next (Call.telegram input lent)
+
+  pub load-is : (lent : List ℕ) → loadOf (r .device) lent .answer ≡ toLoad (heard s) lent
+  unfolding heard event
+  load-is lent = ap (λ (d : Device). loadOf d lent .answer) is ∙ claimed .next (load lent)
 
   pub image-is : (buffer : List ℕ) → imageBytes buffer (r .device .ain .state .out) (r .device .tot .state .out) (r .device .ao .state .out) ≡ Rules.image (heard s) buffer
   unfolding heard

@@ -1,5 +1,8 @@
 -- The points of what the rules cite compute. Assumes nothing.
-use Prim.Native.Nat.{ℕ, _^_}
+use Prim.Native.Nat.{ℕ, suc, _/_, _^_}
+use native.Mathlib.Omega.{arith}
+use mathlib.Core.List.{List, [], _∷_}
+use lib.ListN.{length}
 use mathlib.Core.Path.{_≡_, refl, ap}
 use mathlib.Core.Bool.{Bool, true, false, _&&_}
 use lib.Dec.{eqb}
@@ -9,13 +12,14 @@ use Rattle.numbers.specs.Floats.{floatOf}
 use Rattle.numbers.specs.Floats as Floats
 use Rattle.numbers.specs.Whole as Whole
 use Rattle.scaling.specs.Scaling.{fractionOf, atFraction, allowedScale}
+use Rattle.linearisation.specs.Table.{pairFrom, pairsFrom, pairsIn}
 use Rattle.wire.specs.Bytes.{pairOf}
 use Rattle.wire.specs.Image.{partOf, partPlace}
 use Rattle.tot.specs.Total.{incrementOf, thousandthsOf, sumOf, valueGiven}
 use Rattle.parameters.specs.Table as Table
 use Rattle.parameters.specs.Words.{allowsOf}
 use Rattle.history.specs.Past.{since, latest, carried}
-use Rattle.history.specs.Rules.{statics, kepts, outputs, readOnlys, has, defaults, stored, modeAt, toWrite, badStatus, scaled, calculated, ainBad, filterValue, raises, clears, stands, standsWith, alarmed, ainGives, aoScaled, given}
+use Rattle.history.specs.Rules.{statics, kepts, outputs, readOnlys, has, defaults, stored, table, tabled, linear, said, modeAt, toWrite, isWhole, toLoad, badStatus, scaled, calculated, ainBad, filterValue, raises, clears, stands, standsWith, alarmed, ainGives, aoScaled, given}
 use Rattle.history.specs.Cited.{Cited, cutTo, clearedOf, finiteOr}
 
 whole-cut : (n : ℕ) (z : ℤ) → Whole.limit n z ≡ cutTo n z
@@ -36,8 +40,16 @@ or-infinity false (inf true) = refl
 or-infinity false (inf false) = refl
 or-infinity negative (fin s m e) = refl
 
+-- eight bytes more are one pair more
+first-pair : (a b c d e f g h : ℕ) (s : List ℕ) → pairsIn (a ∷ b ∷ c ∷ d ∷ e ∷ f ∷ g ∷ h ∷ s) ≡ pairFrom (a ∷ b ∷ c ∷ d ∷ e ∷ f ∷ g ∷ h ∷ []) ∷ pairsIn s
+unfolding pairsIn pairsFrom
+first-pair a b c d e f g h s = ap (λ (n : ℕ). pairsFrom n (a ∷ b ∷ c ∷ d ∷ e ∷ f ∷ g ∷ h ∷ s)) (more (length s))
+  where
+    more : (n : ℕ) → suc (suc (suc (suc (suc (suc (suc (suc n))))))) / 8 ≡ suc (n / 8)
+    more n = omega arith
+
 pub cited-points : Cited
-unfolding statics kepts outputs readOnlys has defaults stored latest toWrite scaled calculated aoScaled fractionOf atFraction allowedScale pairOf incrementOf thousandthsOf sumOf valueGiven Whole.limit Whole.highest24ℤ Whole.highestBits Table.entryOf Table.entryIn Table.rowsOf Table.physical Table.ain Table.tot Table.ao allowsOf ofInt ofBits toBits add sub mul div lt le eq ne toSigned neg lib.Ieee.size
+unfolding statics kepts outputs readOnlys has defaults stored latest table tabled linear said toWrite toLoad isWhole pairsIn pairsFrom scaled calculated aoScaled fractionOf atFraction allowedScale pairOf incrementOf thousandthsOf sumOf valueGiven Whole.limit Whole.highest24ℤ Whole.highestBits Table.entryOf Table.entryIn Table.rowsOf Table.physical Table.ain Table.tot Table.ao allowsOf ofInt ofBits toBits add sub mul div lt le eq ne toSigned neg lib.Ieee.size
 cited-points = record {
   measured = λ tot w x o. unfold given ainGives modeAt filterValue carried ainBad badStatus alarmed standsWith stands since raises clears in refl;
   alarm = λ ain tot status x o. unfold standsWith stands since raises clears modeAt in (refl, refl, refl);
@@ -63,12 +75,19 @@ cited-points = record {
   bits = (refl, refl, refl);
   bytes = (refl, refl);
   statuses = (refl, refl, refl, refl);
-  numbers = (refl, refl, refl, refl, refl, refl, refl, refl, refl);
+  numbers = (refl, refl, refl, refl, refl, refl, refl, refl, refl, refl, refl);
+  pairs = λ a b c d e f g h s. first-pair a b c d e f g h s;
+  rest = λ a b c d e f g. (refl, refl);
+  weirs = refl;
+  curve = (refl, refl, refl, refl, refl, refl, refl);
+  starts = (refl, refl, refl, refl);
+  linearised = (refl, refl);
+  loads = (refl, refl, refl, refl, refl, refl, refl, refl, refl, refl, refl);
   part = λ s block place. unfold partOf partPlace in (refl, refl);
   locks = (λ a b. refl, refl, refl);
   modes = ((λ a b. refl, refl, refl), (λ a b. refl, refl, refl), (λ a b. refl, refl, refl));
   ends = ((λ a b. refl, refl, refl), (λ a b. refl, refl, refl), (λ a b. refl, refl, refl), (λ a b. refl, refl, refl));
-  codes = ((λ a b. refl, refl, refl), (λ a b. refl, refl, refl), (λ a b. refl, refl, refl), (λ a b. refl, refl, refl), (λ a b. refl, refl, refl), (λ a b. refl, refl, refl), (λ a b. refl, refl, refl));
+  codes = ((λ a b. refl, refl, refl), (λ a b. refl, refl, refl), (λ a b. refl, refl, refl), (λ a b. refl, refl, refl), (λ a b. refl, refl, refl), (λ a b. refl, refl, refl), (λ a b. refl, refl, refl), (λ a b. refl, refl, refl));
   ranges = ((λ a b. refl, refl, refl), (λ a b. refl, refl, refl));
   finites = ((λ a b. refl, refl, refl), (λ a b. refl, refl, refl));
   hysteresis = (λ a b. refl, refl, refl);

@@ -2,6 +2,7 @@ pub mod Truth
 pub mod Sound
 pub mod Lists
 pub mod Ruled
+pub mod Loads
 pub mod Telegrams
 pub mod Ticks
 pub mod TickStep

@@ -20,7 +20,7 @@ use Rattle.parameters.specs.Refused as Refused
 use Rattle.parameters.specs.Laws.{by-block, no-block, by-rows, _also_}
 use Rattle.history.specs.Past.{History}
 use Rattle.history.specs.Calls.{Event}
-use Rattle.history.specs.Rules.{among, has, statics, kepts, outputs, readOnlys, code, refused, allowedIn, toWrite}
+use Rattle.history.specs.Rules.{among, has, statics, kepts, outputs, readOnlys, code, refused, allowedIn, tabled, toWrite}
 
 abbrev pub present : ℕ → Entry → Bool
 present number NoBlock = false
@@ -47,7 +47,7 @@ listed-present block number =
     by-block
     (λ (b : ℕ). T (has b number) → T (present number (entryOf b number)))
     (each (λ n. present n (entryOf 0 n)) (18 ∷ []) tt number)
-    (each (λ n. present n (entryOf 1 n)) (5 ∷ 11 ∷ 12 ∷ 16 ∷ 17 ∷ 18 ∷ 19 ∷ 21 ∷ 23 ∷ 25 ∷ 27 ∷ 10 ∷ 1 ∷ 6 ∷ 7 ∷ []) tt number)
+    (each (λ n. present n (entryOf 1 n)) (5 ∷ 11 ∷ 12 ∷ 13 ∷ 16 ∷ 17 ∷ 18 ∷ 19 ∷ 21 ∷ 23 ∷ 25 ∷ 27 ∷ 10 ∷ 1 ∷ 6 ∷ 7 ∷ []) tt number)
     (each (λ n. present n (entryOf 2 n)) (5 ∷ 15 ∷ 16 ∷ 13 ∷ 14 ∷ 10 ∷ 1 ∷ 6 ∷ []) tt number)
     (each (λ n. present n (entryOf 3 n)) (5 ∷ 11 ∷ 23 ∷ 24 ∷ 25 ∷ 36 ∷ 38 ∷ 37 ∷ 1 ∷ 6 ∷ []) tt number)
     (λ b h. none b h)
@@ -66,7 +66,7 @@ row-listed =
     (λ block number t. absurd t)
     (λ block number t. absurd t)
     (refl also tt)
-    (refl also refl also refl also refl also refl also refl also refl also refl also refl also refl also refl also refl also refl also refl also refl also tt)
+    (refl also refl also refl also refl also refl also refl also refl also refl also refl also refl also refl also refl also refl also refl also refl also refl also tt)
     (refl also refl also refl also refl also refl also refl also refl also refl also tt)
     (refl also refl also refl also refl also refl also refl also refl also refl also refl also refl also tt)
 
@@ -119,21 +119,21 @@ known block number =
 
 -- ---- grounds of refusal
 
--- WRITE_LOCKING and the targets, by the rules
+-- WRITE_LOCKING, the targets and whether a table came, by the rules
 unfoldable pub standingAt : History Event → Standing
-standingAt h = record { lock = code h 0 18; ain = code h 1 5; tot = code h 2 5; ao = code h 3 5 }
+standingAt h = record { lock = code h 0 18; ain = code h 1 5; tot = code h 2 5; ao = code h 3 5; table = tabled h }
 
 module _ (h : History Event) (a b : ℕ) where
-  row-ground : (block number : ℕ) → T (present number (entryOf block number)) → groundBy (standingAt h) block a b (entryOf block number) ≡ toWrite h block number a b
+  row-ground : (block number : ℕ) → T (present number (entryOf block number)) → groundBy (standingAt h) block number a b (entryOf block number) ≡ toWrite h block number a b
   unfolding standingAt toWrite has statics kepts outputs readOnlys targetIn entryOf entryIn Table.physical Table.ain Table.tot Table.ao
   row-ground =
       by-rows
       present
-      (λ block number e. groundBy (standingAt h) block a b e ≡ toWrite h block number a b)
+      (λ block number e. groundBy (standingAt h) block number a b e ≡ toWrite h block number a b)
       (λ block number t. absurd t)
       (λ block number t. absurd t)
       (refl also tt)
-      (refl also refl also refl also refl also refl also refl also refl also refl also refl also refl also refl also refl also refl also refl also refl also tt)
+      (refl also refl also refl also refl also refl also refl also refl also refl also refl also refl also refl also refl also refl also refl also refl also refl also tt)
       (refl also refl also refl also refl also refl also refl also refl also refl also tt)
       (refl also refl also refl also refl also refl also refl also refl also refl also refl also refl also tt)
 
@@ -141,7 +141,7 @@ module _ (h : History Event) (a b : ℕ) where
   unfolding Refused.ground
   ground-same block number = go (entryOf block number) refl (known block number) (row-ground block number)
     where
-      go : (e : Entry) → entryOf block number ≡ e → Known block number e → (T (present number e) → groundBy (standingAt h) block a b e ≡ toWrite h block number a b) → groundBy (standingAt h) block a b e ≡ toWrite h block number a b
+      go : (e : Entry) → entryOf block number ≡ e → Known block number e → (T (present number e) → groundBy (standingAt h) block number a b e ≡ toWrite h block number a b) → groundBy (standingAt h) block number a b e ≡ toWrite h block number a b
       go NoBlock e k row = sym (unfold toWrite in rw k)
       go NoParameter e k row = sym (unfold toWrite in rw (k .0, k .1))
       go (Parameter class allowed) e k row = row tt
@@ -165,7 +165,7 @@ row-static =
     (λ block number t. absurd t)
     (λ block number t. absurd t)
     (refl also tt)
-    (refl also refl also refl also refl also refl also refl also refl also refl also refl also refl also refl also refl also refl also refl also refl also tt)
+    (refl also refl also refl also refl also refl also refl also refl also refl also refl also refl also refl also refl also refl also refl also refl also refl also tt)
     (refl also refl also refl also refl also refl also refl also refl also refl also tt)
     (refl also refl also refl also refl also refl also refl also refl also refl also refl also refl also tt)
 

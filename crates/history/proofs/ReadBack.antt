@@ -87,7 +87,7 @@ module _ (h : History Event) (Q : Sound h) where
       (λ block number t. absurd t)
       (λ block number t. absurd t)
       (refl also tt)
-      (refl also refl also refl also refl also refl also refl also refl also refl also refl also refl also refl also tt)
+      (refl also refl also refl also refl also refl also refl also refl also refl also refl also refl also refl also refl also tt)
       (refl also refl also refl also refl also refl also tt)
       (refl also refl also refl also refl also refl also refl also refl also tt)
 
@@ -101,7 +101,7 @@ module _ (h : History Event) (Q : Sound h) where
       (λ block number t. absurd t)
       (λ block number t. absurd t)
       (refl also tt)
-      (refl also refl also refl also refl also refl also refl also refl also refl also refl also refl also refl also tt)
+      (refl also refl also refl also refl also refl also refl also refl also refl also refl also refl also refl also refl also tt)
       (refl also refl also refl also refl also refl also tt)
       (refl also refl also refl also refl also refl also refl also refl also tt)
 

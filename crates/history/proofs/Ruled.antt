@@ -9,6 +9,7 @@ use lib.IntN.{ℤ}
 use lib.Ieee.{Float}
 use Rattle.numbers.specs.Floats.{floatOf}
 use Rattle.scaling.specs.declared.Scale.{Scale}
+use Rattle.linearisation.specs.Table.{tableOf}
 use Rattle.wire.specs.declared.Pair.{Pair}
 use Rattle.blocks.specs.declared.Kept.{Kept}
 use Rattle.blocks.specs.Common as Common
@@ -36,7 +37,7 @@ use Rattle.device.specs.Stored.{scaleOf, pairOf as pairWritten, ainSettings, to
 use Rattle.device.specs.Factory.{ainBy, totBy, aoBy, factoryDevice}
 use Rattle.history.specs.Past.{History, start, _▷_, count, countSince, since, latest, told, carried}
 use Rattle.history.specs.Calls.{Event, wrote, words}
-use Rattle.history.specs.Rules.{pair, statics, outputs, among, defaults, orZeros, orElse, stored, wordsTo, never, code, float, scale, isStaticWrite, stRev, actual, operator, filterValue, lastUsable, Alarm, hiHi, hi, lo, loLo, stands, rateValue, total, given, came, setpoint, silence, ifs, isTick, isStart, pairOn, holds, isUsable, isIfs, isUsableOn, isIfsOn, raises, clears}
+use Rattle.history.specs.Rules.{pair, statics, outputs, among, defaults, orZeros, orElse, stored, wordsTo, never, code, float, scale, table, isStaticWrite, stRev, actual, operator, filterValue, lastUsable, Alarm, hiHi, hi, lo, loLo, stands, rateValue, total, given, came, setpoint, silence, ifs, isTick, isStart, pairOn, holds, isUsable, isIfs, isUsableOn, isIfsOn, raises, clears}
 use Rattle.history.proofs.Truth.{and-true}
 use Rattle.history.proofs.Lists.{static-same}
 
@@ -69,6 +70,7 @@ ainOf w = record {
   target = codeIn (w 5);
   «pv_scale» = scaleIn (w 11);
   «out_scale» = scaleIn (w 12);
+  «lin_type» = codeIn (w 13);
   «pv_ftime» = floatIn (w 16);
   «fsafe_type» = codeIn (w 17);
   «fsafe_value» = floatIn (w 18);
@@ -112,7 +114,7 @@ unfoldable pub aoIn : History Event → AoState
 aoIn h = record { out = given 3 h; mode = actual 3 h; operator = operator 3 h; sp = inputAt 0 h; «rcas_in» = inputAt 1 h }
 
 abbrev pub ainBlock : History Event → AinBlock
-ainBlock h = record { settings = ainAt h; state = ainIn h; «st_rev» = stRev h 1 }
+ainBlock h = record { settings = ainAt h; state = ainIn h; «st_rev» = stRev h 1; table = tableOf (table h) }
 
 abbrev pub totBlock : History Event → TotBlock
 totBlock h = record { settings = totAt h; state = totIn h; «st_rev» = stRev h 2 }
@@ -126,7 +128,7 @@ deviceOf h = record { «write_locking» = code h 0 18; ain = ainBlock h; tot = t
 -- ---- the factory call
 
 pub ruled-start : factoryDevice ≡ deviceOf start
-unfolding deviceOf factoryDevice ainBy totBy aoBy Table.defaultOf Table.defaultIn Table.rowsOf Table.physical Table.ain Table.tot Table.ao defaults stored latest ainAt ainIn totAt totIn aoAt aoIn stRev count given actual operator filterValue lastUsable rateValue carried alarmsAt stands since Rattle.history.specs.Rules.total inputAt came setpoint silence countSince ifs freshState started noTelegrams emptied
+unfolding deviceOf factoryDevice ainBy totBy aoBy Table.defaultOf Table.defaultIn Table.rowsOf Table.physical Table.ain Table.tot Table.ao defaults stored latest table ainAt ainIn totAt totIn aoAt aoIn stRev count given actual operator filterValue lastUsable rateValue carried alarmsAt stands since Rattle.history.specs.Rules.total inputAt came setpoint silence countSince ifs freshState started noTelegrams emptied
 ruled-start = refl
 
 -- ---- what leaves a rule's value as it was
@@ -266,6 +268,7 @@ module _ (h : History Event) (block number a b : ℕ) where
     target = written codeIn 1 5 e i;
     «pv_scale» = written scaleIn 1 11 e i;
     «out_scale» = written scaleIn 1 12 e i;
+    «lin_type» = written codeIn 1 13 e i;
     «pv_ftime» = written floatIn 1 16 e i;
     «fsafe_type» = written codeIn 1 17 e i;
     «fsafe_value» = written floatIn 1 18 e i;
@@ -357,9 +360,9 @@ module _ (h : History Event) (block number a b : ℕ) where
     ain-state e false f = ain-still (operated 1 false e f)
 
     ain-then : (p : Bool) → eqb block 1 ≡ p → cond p (ainWritten (ainBlock h) number a b) (ainBlock h) ≡ ainBlock then
-    unfolding ainWritten
-    ain-then true e = λ i. record { settings = ain-written e i; state = ain-state e (eqb number 10) refl i; «st_rev» = rev-wrote 1 true e i }
-    ain-then false e = λ i. record { settings = ain-untouched e i; state = ain-still (unoperated 1 e) i; «st_rev» = rev-wrote 1 false e i }
+    unfolding ainWritten table latest
+    ain-then true e = λ i. record { settings = ain-written e i; state = ain-state e (eqb number 10) refl i; «st_rev» = rev-wrote 1 true e i; table = tableOf (table h) }
+    ain-then false e = λ i. record { settings = ain-untouched e i; state = ain-still (unoperated 1 e) i; «st_rev» = rev-wrote 1 false e i; table = tableOf (table h) }
 
     tot-state : eqb block 2 ≡ true → (q : Bool) → eqb number 10 ≡ q → cond q (writtenState (totIn h) a (b % 256)) (totIn h) ≡ totIn then
     unfolding totIn

@@ -15,7 +15,7 @@ use Rattle.history.specs.declared.Step.{Step}
 use Rattle.history.specs.declared.Found.{Found}
 use Rattle.history.specs.declared.Replayed.{Replayed}
 use Rattle.history.specs.Calls.{Call, fitting, allFit, after, reachedFrom, reached}
-use Rattle.history.specs.Encoded.{wordAt, pairAt, lengthAt, tickFound, writeFound, telegramFound, stepAt, isMalformed, callOf, more, callsFrom, decoded, Replays}
+use Rattle.history.specs.Encoded.{wordAt, pairAt, tickFound, writeFound, lentBy, telegramFound, loadFound, stepAt, isMalformed, callOf, more, callsFrom, decoded, Replays}
 use Rattle.history.proofs.Theorem.{demand-3}
 use Rattle.history.proofs.PointsProof.{points}
 use Rattle.history.proofs.CitedProof.{cited-points}
@@ -83,8 +83,8 @@ module _ (s : List ℕ) (bytes : (i : ℕ) → getD s i 0 < 256) where
   word-small at = omega (arith, bytes at, bytes (at + 1), bytes (at + 2), bytes (at + 3))
 
   step-fits : (at : ℕ) → T (fitting (callOf s at (stepAt s at .step)))
-  unfolding stepAt tickFound writeFound telegramFound
-  step-fits at = go (eqb (getD s at 0) 0) (eqb (getD s at 0) 1) (eqb (getD s at 0) 2) (eqb (getD s at 0) 3)
+  unfolding stepAt tickFound writeFound telegramFound loadFound
+  step-fits at = go (eqb (getD s at 0) 0) (eqb (getD s at 0) 1) (eqb (getD s at 0) 2) (eqb (getD s at 0) 3) (eqb (getD s at 0) 4)
     where
       Fits : Found → Type 0
       Fits f = T (fitting (callOf s at (f .step)))
@@ -101,15 +101,24 @@ module _ (s : List ℕ) (bytes : (i : ℕ) → getD s i 0 < 256) where
       write-fits : Fits (writeFound s at)
       write-fits = among (ltb (length s - at) 11) false (record { step = Step.Write (getD s (at + 1) 0) (getD s (at + 2) 0) (wordAt s (at + 3)) (wordAt s (at + 7)); next = at + 11 }) (and-i (ltb (wordAt s (at + 3)) (2 ^ 32)) (ltb (wordAt s (at + 7)) (2 ^ 32)) (lt→ltb (wordAt s (at + 3)) (2 ^ 32) (word-small (at + 3))) (lt→ltb (wordAt s (at + 7)) (2 ^ 32) (word-small (at + 7))))
 
-      telegram-fits : Fits (telegramFound s at)
-      telegram-fits = among (ltb (length s - at) 10) (ltb (length s - at - 10) (lengthAt s at)) (record { step = Step.Telegram (getD s (at + 1) 0) (lengthAt s at); next = at + 10 + lengthAt s at }) tt
+      -- there, or malformed
+      lent : (b : Bool) (f : Found) → Fits f → Fits (cond b f (record { step = Step.Malformed; next = at }))
+      lent true f t = t
+      lent false f t = tt
 
-      go : (a b c d : Bool) → Fits (cond a (record { step = Step.WarmStart; next = at + 1 }) (cond b (tickFound s at) (cond c (writeFound s at) (cond d (telegramFound s at) (record { step = Step.Malformed; next = at })))))
-      go true b c d = tt
-      go false true c d = tick-fits
-      go false false true d = write-fits
-      go false false false true = telegram-fits
-      go false false false false = tt
+      telegram-fits : Fits (telegramFound s at)
+      telegram-fits = lent (lentBy s at 2 .there) (record { step = Step.Telegram (getD s (at + 1) 0) (lentBy s at 2 .n); next = at + 10 + lentBy s at 2 .n }) tt
+
+      load-fits : Fits (loadFound s at)
+      load-fits = lent (lentBy s at 1 .there) (record { step = Step.Load (lentBy s at 1 .n); next = at + 9 + lentBy s at 1 .n }) tt
+
+      go : (a b c d e : Bool) → Fits (cond a (record { step = Step.WarmStart; next = at + 1 }) (cond b (tickFound s at) (cond c (writeFound s at) (cond d (telegramFound s at) (cond e (loadFound s at) (record { step = Step.Malformed; next = at }))))))
+      go true b c d e = tt
+      go false true c d e = tick-fits
+      go false false true d e = write-fits
+      go false false false true e = telegram-fits
+      go false false false false true = load-fits
+      go false false false false false = tt
 
   abbrev pub fitO : Option (List Call) → Bool
   fitO none = true

@@ -51,7 +51,7 @@ default-sound block number =
     (λ block number t. tt)
     (λ block number t. tt)
     (tt also tt)
-    (tt also tt also tt also tt also tt also tt also tt also tt also tt also tt also tt also tt also tt also tt also tt also tt)
+    (tt also tt also tt also tt also tt also tt also tt also tt also tt also tt also tt also tt also tt also tt also tt also tt also tt)
     (tt also tt also tt also tt also tt also tt also tt also tt also tt)
     (tt also tt also tt also tt also tt also tt also tt also tt also tt also tt also tt)
     block

@@ -11,6 +11,7 @@ use lib.Ieee.Scale.{finite}
 use lib.ListN.{length, getD}
 use borrow.Author.Tests.{eqb-true, eqb-false, ltb-false}
 use Rattle.numbers.specs.Floats.{floatOf}
+use Rattle.linearisation.specs.Table.{tableOf}
 use Rattle.wire.specs.declared.Pair.{Pair}
 use Rattle.wire.specs.declared.Received.{Received}
 use Rattle.wire.specs.declared.Refusal.the-variants.{NoSuchInput, WrongLength}
@@ -27,7 +28,7 @@ use Rattle.device.specs.declared.Device.{Device}
 use Rattle.device.specs.Calls.{telegramOf, warmStarted}
 use Rattle.history.specs.Past.{History, _▷_, count, countSince, since, latest, carried}
 use Rattle.history.specs.Calls.{Event, telegram, warmed}
-use Rattle.history.specs.Rules.{pair, stored, code, outOfService, stRev, actual, operator, filterValue, lastUsable, Alarm, hiHi, hi, lo, loLo, stands, raises, clears, rateValue, total, given, held, came, setpoint, silence, ifs, isTick, isStart, pairOn, holds, isUsable, isIfs, isUsableOn, isIfsOn}
+use Rattle.history.specs.Rules.{pair, stored, code, table, outOfService, stRev, actual, operator, filterValue, lastUsable, Alarm, hiHi, hi, lo, loLo, stands, raises, clears, rateValue, total, given, held, came, setpoint, silence, ifs, isTick, isStart, pairOn, holds, isUsable, isIfs, isUsableOn, isIfsOn}
 use Rattle.history.proofs.Ruled.{keptOf, inputAt, alarmsAt, ainAt, totAt, aoAt, ainIn, totIn, aoIn, deviceOf, alarms-still, input-still}
 use Rattle.history.proofs.Truth.{and-true, and-false}
 
@@ -118,10 +119,10 @@ module _ (h : History Event) (bytes : List ℕ) (l : eqb (length bytes) 5 ≡ tr
     tot-same = refl
 
     pub heard : state ≡ aoIn then → telegramOf (deviceOf h) input bytes .device ≡ deviceOf then
-    unfolding telegramOf deviceOf stored latest ainAt totAt aoAt stRev count
+    unfolding telegramOf deviceOf stored latest table ainAt totAt aoAt stRev count
     heard s = λ i. record {
       «write_locking» = code h 0 18;
-      ain = record { settings = ainAt h; state = ain-same i; «st_rev» = stRev h 1 };
+      ain = record { settings = ainAt h; state = ain-same i; «st_rev» = stRev h 1; table = tableOf (table h) };
       tot = record { settings = totAt h; state = tot-same i; «st_rev» = stRev h 2 };
       ao = record { settings = aoAt h; state = s i; «st_rev» = stRev h 3 };
     }
@@ -194,7 +195,7 @@ module _ (h : History Event) where
   emptied-input input = λ i. made (sym (no-came input) i) (floatOf 0) (silence input (h ▷ warmed)) (sym (none-ifs input) i)
 
   pub ruled-warm : warmStarted (deviceOf h) ≡ deviceOf (h ▷ warmed)
-  unfolding warmStarted deviceOf aoWarmStarted started stored latest ainAt totAt aoAt ainIn totIn aoIn stRev count given actual operator filterValue lastUsable rateValue total carried alarmsAt
+  unfolding warmStarted deviceOf aoWarmStarted started stored latest table ainAt totAt aoAt ainIn totIn aoIn stRev count given actual operator filterValue lastUsable rateValue total carried alarmsAt
   ruled-warm = λ i. record {
     «write_locking» = code h 0 18;
     ain = record {
@@ -208,6 +209,7 @@ module _ (h : History Event) where
         alarms = record { «hi_hi» = sym (forgotten hiHi) i; hi = sym (forgotten hi) i; lo = sym (forgotten lo) i; «lo_lo» = sym (forgotten loLo) i };
       };
       «st_rev» = stRev h 1;
+      table = tableOf (table h);
     };
     tot = record { settings = totAt h; state = record { total = total h; out = held (given 2 h); mode = outOfService; rate = Common.none; «operator_status» = 0x4c }; «st_rev» = stRev h 2 };
     ao = record {

@@ -13,6 +13,7 @@ use lib.Ieee.Scale.{finite}
 use lib.ListN.{length, getD}
 use borrow.Author.Tests.{eqb-true, ltb-true, ltb-false}
 use Rattle.numbers.specs.Floats.{floatOf, within}
+use Rattle.linearisation.specs.Table.{tableOf, hasTable}
 use Rattle.wire.specs.declared.Pair.{Pair}
 use Rattle.wire.specs.Bytes.{pairOf, wordOf}
 use Rattle.wire.specs.Image.{imageBytes}
@@ -36,16 +37,17 @@ use Rattle.parameters.specs.Laws.{by-rows, _also_, takes, accepted-takes}
 use Rattle.device.specs.declared.Device.{Device}
 use Rattle.device.specs.Factory.{factoryDevice}
 use Rattle.device.specs.Read.{readOf, wordsOf, ainWords, aoWords}
-use Rattle.device.specs.Calls.{standingOf, writeBy, writeOf, tickOf, telegramOf, warmStarted}
+use Rattle.device.specs.Calls.{standingOf, writeBy, writeOf, tickOf, telegramOf, loadOf, warmStarted}
 use Rattle.history.specs.Past.{History, start, _▷_, latest, carried, Each}
-use Rattle.history.specs.Calls.{Call, tick, write, warmStart, Event, wrote, seen, fitting, allFit, after, event, reachedFrom, traceFrom, reached, trace}
-use Rattle.history.specs.Rules.{outputs, among, stored, toWrite, toTelegram, isAccepted, answer, accepted, given, oldOut}
+use Rattle.history.specs.Calls.{Call, tick, write, load, warmStart, Event, wrote, loaded, seen, fitting, allFit, after, event, reachedFrom, traceFrom, reached, trace}
+use Rattle.history.specs.Rules.{outputs, among, stored, code, table, toWrite, toTelegram, toLoad, isAccepted, answer, accepted, given, oldOut}
 use Rattle.history.specs.Rules as Rules
 use Rattle.history.specs.Claim.{Tick, answers, Claim}
 use Rattle.history.proofs.Lists.{present, standingAt, ground-same}
 use Rattle.history.proofs.Sound.{Sound, sound-start, sound-write}
 use Rattle.history.proofs.Ruled.{ainAt, totAt, aoAt, totIn, deviceOf, ruled-start, ruled-wrote}
 use Rattle.history.proofs.Telegrams.{ruled-telegram, telegram-refused, ruled-warm}
+use Rattle.history.proofs.Loads.{load-answer, load-refused, ruled-load, loaded-came}
 use Rattle.history.proofs.TickStep.{ain-given, ao-given, order-is, good-is, ruled-tick}
 use Rattle.history.proofs.ReadBack.{reads-same, image-answer, image-same}
 
@@ -56,6 +58,8 @@ pub record Holds (d : Device) (h : History Event) : Type 0 where
   pub ainOld : given 1 h .bits ≡ oldOut 1 h
   pub aoOld : given 3 h .bits ≡ oldOut 3 h
   pub sound : Sound h
+  -- the device has a table where one came
+  pub tabled : hasTable (tableOf (table h)) ≡ Rules.tabled h
   pub ticks : Each Tick h
 
 -- ---- a write
@@ -65,7 +69,7 @@ only-lock : (s : Standing) (block number a b : ℕ) → ground s block number a 
 unfolding ground entryOf entryIn Table.physical
 only-lock s block number a b t e = go (eqb number 18) (subst (λ (x : Answer). T (isAccepted x)) (sym (sym (ap (λ (x : ℕ). ground s x number a b) (eqb-true block 0 e)) ∙ t)) tt)
   where
-    go : (p : Bool) → T (isAccepted (groundBy s 0 a b (cond p (Parameter N Lock) NoParameter))) → p ≡ true
+    go : (p : Bool) → T (isAccepted (groundBy s 0 number a b (cond p (Parameter N Lock) NoParameter))) → p ≡ true
     go true t = refl
     go false t = absurd t
 
@@ -90,7 +94,7 @@ module _ (a b : ℕ) where
       (λ block number t. absurd t)
       (λ block number t. absurd t)
       (no also tt)
-      (no also no also no also no also (λ t m. byte (finite (floatOf a)) t) also no also no also no also no also no also no also no also no also no also no also tt)
+      (no also no also no also no also (λ t m. byte (finite (floatOf a)) t) also no also no also no also no also no also no also no also no also no also no also no also tt)
       (no also no also no also (λ t m. byte (within (ofInt binary32 (negsuc 999_999_999)) (ofInt binary32 (pos 1_000_000_000)) (floatOf a)) t) also no also no also no also no also tt)
       (no also no also no also no also no also no also no also no also (λ t m. byte (finite (floatOf a)) t) also no also tt)
 
@@ -101,17 +105,18 @@ taken-present NoParameter number a b t = t
 taken-present (Parameter class allowed) number a b t = tt
 
 -- what stands, by the device and by the rules
-standing-same : (h : History Event) → standingOf (deviceOf h) ≡ standingAt h
+standing-same : (h : History Event) → hasTable (tableOf (table h)) ≡ Rules.tabled h → standingOf (deviceOf h) ≡ standingAt h
 unfolding standingAt deviceOf ainAt totAt aoAt
-standing-same h = refl
+standing-same h e = λ i. record { lock = code h 0 18; ain = code h 1 5; tot = code h 2 5; ao = code h 3 5; table = e i }
 
-write-same : (h : History Event) (block number a b : ℕ) → ground (standingOf (deviceOf h)) block number a b ≡ toWrite h block number a b
-write-same h block number a b = ap (λ (s : Standing). ground s block number a b) (standing-same h) ∙ ground-same h a b block number
+write-same : (h : History Event) (block number a b : ℕ) → hasTable (tableOf (table h)) ≡ Rules.tabled h
+    → ground (standingOf (deviceOf h)) block number a b ≡ toWrite h block number a b
+write-same h block number a b e = ap (λ (s : Standing). ground s block number a b) (standing-same h e) ∙ ground-same h a b block number
 
 write-ruled : (h : History Event) (block number a b : ℕ) → T (ltb a (2 ^ 32) && ltb b (2 ^ 32)) → Holds (deviceOf h) h
     → Holds (writeOf (deviceOf h) block number a b .device) (cond (isAccepted (toWrite h block number a b)) (h ▷ wrote block number a b) h)
 unfolding writeOf
-write-ruled h block number a b fit H = go (toWrite h block number a b) refl (write-same h block number a b)
+write-ruled h block number a b fit H = go (toWrite h block number a b) refl (write-same h block number a b (H .tabled))
   where
     go : (x : Answer) → toWrite h block number a b ≡ x → ground (standingOf (deviceOf h)) block number a b ≡ toWrite h block number a b
         → Holds (writeBy (deviceOf h) block number a b (ground (standingOf (deviceOf h)) block number a b) .device) (cond (isAccepted (toWrite h block number a b)) (h ▷ wrote block number a b) h)
@@ -124,6 +129,7 @@ write-ruled h block number a b fit H = go (toWrite h block number a b) refl (wri
           ainOld = unfold given oldOut carried in H .ainOld;
           aoOld = unfold given oldOut carried in H .aoOld;
           sound = sound-write h (standingOf (deviceOf h)) block number a b (H .sound) (subst (λ (x : Answer). T (isAccepted x)) (sym met) tt) fit;
+          tabled = unfold table Rules.tabled latest in H .tabled;
           ticks = (H .ticks, tt);
         })
     go (Refused r) e f = rw (f, e) H
@@ -146,8 +152,24 @@ telegram-ruled h input bytes H = go (ltb 1 input) refl (eqb (length bytes) 5) re
       ainOld = unfold given oldOut carried in H .ainOld;
       aoOld = unfold given oldOut carried in H .aoOld;
       sound = unfold stored latest in H .sound;
+      tabled = unfold table Rules.tabled latest in H .tabled;
       ticks = (H .ticks, tt);
     })
+
+load-ruled : (h : History Event) (bytes : List ℕ) → Holds (deviceOf h) h
+    → Holds (loadOf (deviceOf h) bytes .device) (cond (isAccepted (toLoad h bytes)) (h ▷ loaded bytes) h)
+load-ruled h bytes H = go (toLoad h bytes) refl
+  where
+    go : (x : Answer) → toLoad h bytes ≡ x → Holds (loadOf (deviceOf h) bytes .device) (cond (isAccepted (toLoad h bytes)) (h ▷ loaded bytes) h)
+    go Accepted e = rw e (record {
+      ruled = ruled-load h bytes e;
+      ainOld = unfold given oldOut carried in H .ainOld;
+      aoOld = unfold given oldOut carried in H .aoOld;
+      sound = unfold stored latest in H .sound;
+      tabled = loaded-came h bytes e;
+      ticks = (H .ticks, tt);
+    })
+    go (Refused r) e = rw (e, load-refused (deviceOf h) bytes r (load-answer h bytes ∙ e)) H
 
 tick-ruled : (h : History Event) (fault : Bool) (ain tot : Pair) → Holds (deviceOf h) h → Holds (after (deviceOf h) (tick fault ain tot)) (h ▷ event (deviceOf h) (tick fault ain tot))
 unfolding after event readOf entryOf entryIn Table.ain Table.ao wordsOf ainWords aoWords stored latest oldOut carried
@@ -156,6 +178,7 @@ tick-ruled h fault ain tot H = record {
   ainOld = λ i. sym (ain-given h (H .sound) fault ain tot (H .ainOld) (H .aoOld) ainOut aoOut order) i .bits;
   aoOld = λ i. sym (ao-given h (H .sound) fault ain tot (H .ainOld) (H .aoOld) ainOut aoOut order) i .bits;
   sound = H .sound;
+  tabled = unfold table Rules.tabled in H .tabled;
   ticks = (H .ticks, record { drive = order-is h (H .sound) fault ain tot (H .ainOld) (H .aoOld) ainOut aoOut order; quality = good-is h (H .sound) fault ain tot (H .ainOld) (H .aoOld) ainOut aoOut order });
 }
   where
@@ -177,6 +200,7 @@ warm-ruled h H = record {
   ainOld = unfold given oldOut carried in H .ainOld;
   aoOld = unfold given oldOut carried in H .aoOld;
   sound = unfold stored latest in H .sound;
+  tabled = unfold table Rules.tabled latest in H .tabled;
   ticks = (H .ticks, tt);
 }
 
@@ -186,6 +210,7 @@ unfolding after event accepted
 call-ruled t (tick fault ain tot) fit H = tick-ruled (accepted t) fault ain tot H
 call-ruled t (Call.telegram input bytes) fit H = telegram-ruled (accepted t) input bytes H
 call-ruled t (write block number a b) fit H = write-ruled (accepted t) block number a b fit H
+call-ruled t (load bytes) fit H = load-ruled (accepted t) bytes H
 call-ruled t warmStart fit H = warm-ruled (accepted t) H
 
 step : (d : Device) (t : History Event) (c : Call) → T (fitting c) → Holds d (accepted t) → Holds (after d c) (accepted (t ▷ event d c))
@@ -201,7 +226,7 @@ run (c ∷ cs) d t fit H = run cs (after d c) (t ▷ event d c) (and-r (fitting 
 
 start-holds : Holds factoryDevice (accepted start)
 unfolding accepted
-start-holds = record { ruled = ruled-start; ainOld = unfold given oldOut carried in refl; aoOld = unfold given oldOut carried in refl; sound = sound-start; ticks = tt }
+start-holds = record { ruled = ruled-start; ainOld = unfold given oldOut carried in refl; aoOld = unfold given oldOut carried in refl; sound = sound-start; tabled = unfold table Rules.tabled latest in refl; ticks = tt }
 
 reached-holds : (cs : List Call) → T (allFit cs) → Holds (reached cs) (accepted (trace cs))
 unfolding reached trace
@@ -224,12 +249,13 @@ telegram-answer d input bytes = go (ltb 1 input) (eqb (length bytes) 5)
     go false true = refl
     go false false = refl
 
-next-same : (h : History Event) (c : Call) → answers (deviceOf h) c ≡ answer h (event (deviceOf h) c)
+next-same : (h : History Event) (c : Call) → hasTable (tableOf (table h)) ≡ Rules.tabled h → answers (deviceOf h) c ≡ answer h (event (deviceOf h) c)
 unfolding event writeOf
-next-same h (tick fault ain tot) = refl
-next-same h (Call.telegram input bytes) = telegram-answer (deviceOf h) input bytes
-next-same h (write block number a b) = write-answer (deviceOf h) block number a b (ground (standingOf (deviceOf h)) block number a b) ∙ write-same h block number a b
-next-same h warmStart = refl
+next-same h (tick fault ain tot) e = refl
+next-same h (Call.telegram input bytes) e = telegram-answer (deviceOf h) input bytes
+next-same h (write block number a b) e = write-answer (deviceOf h) block number a b (ground (standingOf (deviceOf h)) block number a b) ∙ write-same h block number a b e
+next-same h (load bytes) e = load-answer h bytes
+next-same h warmStart e = refl
 
 -- Demand 3: of every list of calls whose words are of 32 bits.
 pub demand-3 : (calls : List Call) → T (allFit calls) → Claim calls
@@ -240,6 +266,6 @@ demand-3 calls fit =
       reads = λ block number. ap (λ (d : Device). readOf d block number) (H .ruled) ∙ reads-same h (H .sound) block number;
       total = ap (λ (d : Device). d .tot .state .total) (H .ruled) ∙ (unfold deviceOf totIn in refl);
       ticks = H .ticks;
-      next = λ c. ap (λ (d : Device). answers d c) (H .ruled) ∙ next-same h c ∙ ap (λ (d : Device). answer h (event d c)) (sym (H .ruled));
+      next = λ c. ap (λ (d : Device). answers d c) (H .ruled) ∙ next-same h c (H .tabled) ∙ ap (λ (d : Device). answer h (event d c)) (sym (H .ruled));
       image = λ buffer. (image-answer buffer, ap (λ (d : Device). imageBytes buffer (d .ain .state .out) (d .tot .state .out) (d .ao .state .out)) (H .ruled) ∙ image-same h buffer);
     }

@@ -12,6 +12,7 @@ use lib.Ieee.Fits.{and-l}
 use lib.Ieee.Scale.{finite}
 use Rattle.numbers.specs.Floats.{floatOf, bitsOf}
 use Rattle.scaling.specs.Scaling.{fractionOf, atFraction}
+use Rattle.linearisation.specs.Table.{tableOf}
 use Rattle.wire.specs.declared.Pair.{Pair}
 use Rattle.blocks.specs.Common.{actualMode}
 use Rattle.ain.specs.declared.State.{State as AinState}
@@ -35,7 +36,7 @@ use Rattle.device.specs.declared.Device.{Device}
 use Rattle.device.specs.Calls.{tickOf}
 use Rattle.history.specs.Past.{History, _▷_, count, countSince, since, latest, carried}
 use Rattle.history.specs.Calls.{Event, ticked}
-use Rattle.history.specs.Rules.{pair, isAuto, calculated, stored, code, float, scale, outOfService, man, auto, rcas, stRev, modeAt, actual, operator, oldOut, filterValue, lastUsable, Alarm, hiHi, hi, lo, loLo, stands, raises, clears, ainGives, rateValue, total, totGives, came, setpoint, silence, ifs, isFailSafe, isUsableOn, Given, positioned, aoScaled, working, aoFailSafe, aoBy, aoGives, order, given}
+use Rattle.history.specs.Rules.{pair, isAuto, calculated, stored, code, float, scale, table, outOfService, man, auto, rcas, stRev, modeAt, actual, operator, oldOut, filterValue, lastUsable, Alarm, hiHi, hi, lo, loLo, stands, raises, clears, ainGives, rateValue, total, totGives, came, setpoint, silence, ifs, isFailSafe, isUsableOn, Given, positioned, aoScaled, working, aoFailSafe, aoBy, aoGives, order, given}
 use Rattle.history.specs.Rules as Rules
 use Rattle.history.specs.Claim.{good}
 use Rattle.history.proofs.Ruled.{keptOf, inputAt, alarmsAt, ainAt, totAt, aoAt, ainIn, totIn, aoIn, deviceOf, came-same, ifs-same, setpoint-same}
@@ -224,8 +225,8 @@ module _ (h : History Event) (S : Sound h) (fault : Bool) (ain tot : Pair) (ainO
     pub good-is : T (isAuto h fault 1) → good (next .ain .state .out .status) ≡ (good (ain .status) && finite (calculated h (filterValue h) ain))
     unfolding tickOf deviceOf Ain.tickOf actualMode modeAt ainAt
     good-is t =
-        ap (λ (m : ℕ). good (Ain.tickBy (ainAt h) (ainIn h) m (ain .bits) (ain .status) .out .status)) (eqb→eq (modeAt h fault 1) auto t)
-        ∙ (unfold Ain.tickBy in good-exactly (ainAt h) (ainIn h) auto (ain .bits) (ain .status))
+        ap (λ (m : ℕ). good (Ain.tickBy (ainAt h) (tableOf (table h)) (ainIn h) m (ain .bits) (ain .status) .out .status)) (eqb→eq (modeAt h fault 1) auto t)
+        ∙ (unfold Ain.tickBy in good-exactly (ainAt h) (tableOf (table h)) (ainIn h) auto (ain .bits) (ain .status))
         ∙ (unfold ainIn in ap (λ (x : Float). good (ain .status) && finite x) (calculated-is h ain (filterValue h)))
 
     -- the alarms go by the OUT that is read
@@ -265,10 +266,10 @@ module _ (h : History Event) (S : Sound h) (fault : Bool) (ain tot : Pair) (ainO
       }
 
       pub ruled-tick : tickOf (deviceOf h) fault ain tot .device ≡ deviceOf (h ▷ ticked fault ain tot ainOut aoOut given-order)
-      unfolding tickOf deviceOf stored latest ainAt totAt aoAt stRev count
+      unfolding tickOf deviceOf stored latest table ainAt totAt aoAt stRev count
       ruled-tick = λ i. record {
         «write_locking» = code h 0 18;
-        ain = record { settings = ainAt h; state = ain-then i; «st_rev» = stRev h 1 };
+        ain = record { settings = ainAt h; state = ain-then i; «st_rev» = stRev h 1; table = tableOf (table h) };
         tot = record { settings = totAt h; state = tot-then i; «st_rev» = stRev h 2 };
         ao = record { settings = aoAt h; state = ao-then i; «st_rev» = stRev h 3 };
       }

@@ -11,6 +11,9 @@ use lib.Ieee.{Float, binary32, ofInt, eq}
 use lib.Ieee.Fits.{and-l}
 use lib.Ieee.Scale.{finite}
 use Rattle.numbers.specs.Floats.{floatOf, bitsOf}
+use Rattle.scaling.specs.Scaling.{fractionOf, atFraction}
+use Rattle.linearisation.specs.declared.Table.{Table}
+use Rattle.linearisation.specs.Table.{tableOf}
 use Rattle.wire.specs.declared.Pair.{Pair}
 use Rattle.wire.specs.Status.{qualityOf}
 use Rattle.blocks.specs.declared.Kept.{Kept}
@@ -31,7 +34,8 @@ use Rattle.tot.specs.Total.{incrementOf, wanted, nextTotal, valueGiven, givenBi
 use Rattle.tot.specs.Tick as Tot
 use Rattle.history.specs.Past.{History}
 use Rattle.history.specs.Calls.{Event}
-use Rattle.history.specs.Rules.{pair, code, float, outOfService, man, auto, rcas, modeAt, operator, oldOut, badStatus, ifUsable, scaled, calculated, ainBad, filterValue, lastUsable, stands, standsWith, alarmed, ainFailSafe, ainAuto, ainGives, totBad, rateValue, wantedBy, addedRate, adds, totalBy, total, totStatus, totGives, given, held}
+use Rattle.history.specs.Rules.{pair, code, float, scale, table, outOfService, man, auto, rcas, modeAt, operator, oldOut, badStatus, ifUsable, scaled, calculated, ainBad, filterValue, lastUsable, stands, standsWith, alarmed, ainFailSafe, ainAuto, ainGives, totBad, rateValue, wantedBy, addedRate, adds, totalBy, total, totStatus, totGives, given, held}
+use Rattle.history.proofs.Loads.{measured-is}
 use Rattle.history.proofs.Ruled.{keptOf, alarmsAt, ainAt, ainIn, totAt, totIn}
 
 -- ---- the modes
@@ -122,24 +126,31 @@ first-way true x y = refl
 first-way false x y = refl
 
 module _ (h : History Event) (ain : Pair) where
-  pub calculated-is : (old : Option Float) → Ain.calculated (ainAt h) (keptOf old) (ain .bits) ≡ calculated h old ain
-  unfolding Ain.calculated Ain.scaledValue scaledOf filtered calculated scaled ainAt
-  calculated-is none = either-way (eq (float h 1 16) (ofInt binary32 (pos 0))) (scaled h ain) _
-  calculated-is (some pv) = first-way (eq (float h 1 16) (ofInt binary32 (pos 0))) (scaled h ain) _
+  abbrev tableAt : Table
+  tableAt = tableOf (table h)
 
-  input-is : (old : Option Float) → Ain.inputOf (ainAt h) (keptOf old) (ain .bits) (ain .status) ≡ inputFrom (ainBad h old ain)
-  unfolding Ain.inputOf ainBad Ain.scaledValue scaledOf scaled ainAt
+  scaled-is : Ain.scaledValue (ainAt h) tableAt (ain .bits) ≡ scaled h ain
+  unfolding Ain.scaledValue scaledOf scaled ainAt
+  scaled-is = ap (λ (x : Float). atFraction (scale h 1 12) (fractionOf (scale h 1 11) x)) (measured-is h (floatOf (ain .bits)))
+
+  pub calculated-is : (old : Option Float) → Ain.calculated (ainAt h) tableAt (keptOf old) (ain .bits) ≡ calculated h old ain
+  unfolding Ain.calculated filtered calculated ainAt
+  calculated-is none = ap (λ (x : Float). filtered (float h 1 16) (keptOf none) x) scaled-is ∙ either-way (eq (float h 1 16) (ofInt binary32 (pos 0))) (scaled h ain) _
+  calculated-is (some pv) = ap (λ (x : Float). filtered (float h 1 16) (keptOf (some pv)) x) scaled-is ∙ first-way (eq (float h 1 16) (ofInt binary32 (pos 0))) (scaled h ain) _
+
+  input-is : (old : Option Float) → Ain.inputOf (ainAt h) tableAt (keptOf old) (ain .bits) (ain .status) ≡ inputFrom (ainBad h old ain)
+  unfolding Ain.inputOf ainBad
   input-is old =
-      ap (λ (x : Float). inputStatus (ain .status) (finite (floatOf (ain .bits))) (finite (scaled h ain) && finite x)) (calculated-is old)
+      (λ i. inputStatus (ain .status) (finite (floatOf (ain .bits))) (finite (scaled-is i) && finite (calculated-is old i)))
       ∙ status-is (ain .status) (finite (floatOf (ain .bits))) (finite (scaled h ain) && finite (calculated h old ain))
 
   -- an Auto tick, by the Bad status
   abbrev byBad : ℕ → Option ℕ → AinState
-  byBad m bad = Ain.autoBy (ainAt h) (ainIn h) m (ain .bits) (ain .status) (inputFrom bad)
+  byBad m bad = Ain.autoBy (ainAt h) tableAt (ainIn h) m (ain .bits) (ain .status) (inputFrom bad)
 
-  auto-is : (m : ℕ) → Ain.autoTick (ainAt h) (ainIn h) m (ain .bits) (ain .status) ≡ byBad m (ainBad h (filterValue h) ain)
+  auto-is : (m : ℕ) → Ain.autoTick (ainAt h) tableAt (ainIn h) m (ain .bits) (ain .status) ≡ byBad m (ainBad h (filterValue h) ain)
   unfolding Ain.autoTick ainIn
-  auto-is m = ap (Ain.autoBy (ainAt h) (ainIn h) m (ain .bits) (ain .status)) (input-is (filterValue h))
+  auto-is m = ap (Ain.autoBy (ainAt h) tableAt (ainIn h) m (ain .bits) (ain .status)) (input-is (filterValue h))
 
   module _ (old : given 1 h .bits ≡ oldOut 1 h) where
     fail-safe-is : (bad : ℕ) → Ain.failSafeOut (code h 1 17) (float h 1 18) (keptOf (lastUsable h)) (scaled h ain) (given 1 h) bad ≡ ainFailSafe h ain bad
@@ -188,9 +199,9 @@ module _ (h : History Event) (ain : Pair) where
       alarms = alarmsOf (ainAt h) (alarmsAt h) (floatOf (bitsOf (calculated-is (filterValue h) i)));
     }
 
-    unusable-is : (m bad : ℕ) → byBad m (some bad) ≡ worked m (some bad)
-    unfolding Ain.autoBy Ain.unusableTick Ain.scaledValue scaledOf scaled ainAt ainIn
-    unusable-is m bad = λ i. record {
+    by-scaled : (m bad : ℕ) → Ain.unusableTick (ainAt h) (ainIn h) m (scaled h ain) bad ≡ worked m (some bad)
+    unfolding Ain.unusableTick ainAt ainIn
+    by-scaled m bad = λ i. record {
       out = fail-safe-is bad i;
       mode = m;
       filter = keptOf (filterValue h);
@@ -199,9 +210,13 @@ module _ (h : History Event) (ain : Pair) where
       alarms = alarmsOf (ainAt h) (alarmsAt h) (floatOf (fail-safe-is bad i .bits));
     }
 
+    unusable-is : (m bad : ℕ) → byBad m (some bad) ≡ worked m (some bad)
+    unfolding Ain.autoBy
+    unusable-is m bad = ap (λ (x : Float). Ain.unusableTick (ainAt h) (ainIn h) m x bad) scaled-is ∙ by-scaled m bad
+
     module _ (fault : Bool) where
       abbrev ainTick : AinState
-      ainTick = Ain.tickBy (ainAt h) (ainIn h) (modeAt h fault 1) (ain .bits) (ain .status)
+      ainTick = Ain.tickBy (ainAt h) tableAt (ainIn h) (modeAt h fault 1) (ain .bits) (ain .status)
 
       ain-auto : modeAt h fault 1 ≡ auto → ainTick ≡ worked auto (ainBad h (filterValue h) ain)
       unfolding Ain.tickBy

@@ -1,4 +1,5 @@
--- The calls of a history and what is seen of them, document 01, Calls on the device and History rules. Assumes nothing.
+-- The calls of a history and what is seen of them, document 01, Calls on the device and History rules, and document 02, request 1.
+-- Assumes nothing.
 use Prim.Native.Nat.{ℕ, _^_}
 use mathlib.Core.Bool.{Bool, true, _&&_}
 use mathlib.Core.List.{List, [], _∷_}
@@ -11,14 +12,15 @@ use Rattle.device.specs.declared.Reading.{Reading}
 use Rattle.device.specs.declared.Reading.the-variants.{Read, Refused}
 use Rattle.device.specs.Factory.{factoryDevice}
 use Rattle.device.specs.Read.{readOf}
-use Rattle.device.specs.Calls.{writeOf, tickOf, telegramOf, warmStarted}
+use Rattle.device.specs.Calls.{writeOf, tickOf, telegramOf, loadOf, warmStarted}
 use Rattle.history.specs.Past.{History, start, _▷_}
 
--- C2, C5 to C7: a call with its arguments (reads move nothing and are left out)
+-- C2, C5 to C7, Q1.9b: a call with its arguments (reads move nothing and are left out)
 pub data Call : Type 0 where
   tick : Bool → Pair → Pair → Call
   telegram : ℕ → List ℕ → Call
   write : ℕ → ℕ → ℕ → ℕ → Call
+  load : List ℕ → Call
   warmStart : Call
 
 -- C6: the words of a write have 32 bits
@@ -26,6 +28,7 @@ abbrev pub fitting : Call → Bool
 fitting (tick fault ain tot) = true
 fitting (telegram input bytes) = true
 fitting (write block number a b) = ltb a (2 ^ 32) && ltb b (2 ^ 32)
+fitting (load bytes) = true
 fitting warmStart = true
 
 abbrev pub allFit : List Call → Bool
@@ -37,6 +40,7 @@ pub data Event : Type 0 where
   ticked : Bool → Pair → Pair → Words → Words → Order → Event
   telegram : ℕ → List ℕ → Event
   wrote : ℕ → ℕ → ℕ → ℕ → Event
+  loaded : List ℕ → Event
   warmed : Event
 
 abbrev pub words : ℕ → ℕ → Words
@@ -51,6 +55,7 @@ unfoldable pub after : Device → Call → Device
 after d (tick fault ain tot) = tickOf d fault ain tot .device
 after d (telegram input bytes) = telegramOf d input bytes .device
 after d (write block number a b) = writeOf d block number a b .device
+after d (load bytes) = loadOf d bytes .device
 after d warmStart = warmStarted d
 
 unfoldable pub event : Device → Call → Event
@@ -60,6 +65,7 @@ event d (tick fault ain tot) =
     (tickOf d fault ain tot .order)
 event d (telegram input bytes) = Event.telegram input bytes
 event d (write block number a b) = wrote block number a b
+event d (load bytes) = loaded bytes
 event d warmStart = warmed
 
 -- a list of calls on a device: the device reached, and all that is seen, oldest first

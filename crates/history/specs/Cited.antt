@@ -1,6 +1,6 @@
 -- What the rules cite stands on both sides of the claim. So each cited definition is pinned here, beside A to I, and with them the numbers of answers and
--- the parts of an image: as a formula for all values, in the kit's operations, and by points worked by hand from document 01. The rules' lists are compared
--- with the table. Code and a cited definition changed together are refused here. Assumes nothing.
+-- the parts of an image: as a formula for all values, in the kit's operations, and by points worked by hand from documents 01 and 02. The rules' lists are
+-- compared with the table. Code and a cited definition changed together are refused here. Assumes nothing.
 use Prim.Native.Nat.{ℕ, suc, _+_, _-_, _*_, _/_, _%_, _^_, min}
 use mathlib.Core.Path.{_≡_}
 use mathlib.Core.Bool.{Bool, true, false, not, _&&_, _||_, cond}
@@ -13,6 +13,8 @@ use lib.Ieee.Scale.{finite}
 use lib.ListN.{length, take, drop}
 use Rattle.numbers.specs.Floats.{floatOf, bitsOf}
 use Rattle.scaling.specs.Scaling.{fractionOf, atFraction}
+use Rattle.linearisation.specs.declared.Point.{Point}
+use Rattle.linearisation.specs.Table.{pairsIn}
 use Rattle.wire.specs.declared.Pair.{Pair}
 use Rattle.wire.specs.declared.Received.{Received}
 use Rattle.wire.specs.Refusal.{answerNumber}
@@ -27,9 +29,9 @@ use Rattle.parameters.specs.declared.Class.{Class}
 use Rattle.parameters.specs.declared.Class.the-variants.{S, N, D, R}
 use Rattle.parameters.specs.Table.{Row, rowsOf, entryOf}
 use Rattle.history.specs.Past.{History, start, _▷_}
-use Rattle.history.specs.Calls.{Event, ticked, wrote, words}
+use Rattle.history.specs.Calls.{Event, ticked, wrote, loaded, words}
 use Rattle.history.specs.Rules.{pair, refused, allowedIn, among, statics, kepts, outputs, readOnlys, defaults, orZeros, toWrite, scaled, calculated}
-use Rattle.history.specs.Rules.{hi, standsWith, aoScaled, given}
+use Rattle.history.specs.Rules.{linear, toLoad, hi, standsWith, aoScaled, given}
 
 -- whole numbers as singles, and the singles at the ends
 abbrev whole : ℕ → Float
@@ -52,9 +54,20 @@ notANumber = 0x7fc0_0000
 
 -- ---- allowed words
 
--- Man in every block, so that OUT and TOTAL can be written
+-- four bytes of a word, and the eight of a pair
+abbrev four : ℕ → List ℕ
+four n = n / 2 ^ 24 ∷ n / 2 ^ 16 % 256 ∷ n / 2 ^ 8 % 256 ∷ n % 256 ∷ []
+
+abbrev eight : ℕ → ℕ → List ℕ
+eight x y = four x ++ four y
+
+-- a table of (0, 0) and (1, 10)
+abbrev slope : List ℕ
+slope = eight 0 0 ++ eight 0x3f80_0000 0x4120_0000
+
+-- Man in every block, so that OUT and TOTAL can be written, and a table, so that LIN_TYPE can be 1
 abbrev inMan : History Event
-inMan = start ▷ wrote 1 5 0x10 0 ▷ wrote 2 5 0x10 0 ▷ wrote 3 5 0x10 0
+inMan = start ▷ loaded slope ▷ wrote 1 5 0x10 0 ▷ wrote 2 5 0x10 0 ▷ wrote 3 5 0x10 0
 
 abbrev answered : ℕ → ℕ → List Words → List ℕ
 answered block number [] = []
@@ -169,6 +182,35 @@ filters = start ▷ wrote 1 11 0 0x4280_0000 ▷ wrote 1 12 0 0x4280_0000 ▷ wr
 abbrev limited : History Event
 limited = start ▷ wrote 1 23 0x42a0_0000 0
 
+-- ---- tables
+
+abbrev point : ℕ → ℕ → Point
+point x y = record { x = floatOf x; y = floatOf y }
+
+-- (0, 0) (1, 10) (4, 70) (7, 100), as bytes and as pairs
+abbrev weir : List ℕ
+weir = slope ++ eight 0x4080_0000 0x428c_0000 ++ eight 0x40e0_0000 0x42c8_0000
+
+abbrev weirPairs : List Point
+weirPairs = point 0 0 ∷ point 0x3f80_0000 0x4120_0000 ∷ point 0x4080_0000 0x428c_0000 ∷ point 0x40e0_0000 0x42c8_0000 ∷ []
+
+-- (0, −0) (1, 10), and (0, −3e38) (2, 3e38), whose y lie further apart than singles go
+abbrev signed : List Point
+signed = point 0 0x8000_0000 ∷ point 0x3f80_0000 0x4120_0000 ∷ []
+
+abbrev wide : List Point
+wide = point 0 0xff61_b1e6 ∷ point 0x4000_0000 0x7f61_b1e6 ∷ []
+
+-- LIN_TYPE 1 with the weir's table; locked
+abbrev byTable : History Event
+byTable = start ▷ loaded weir ▷ wrote 1 13 1 0
+
+abbrev locked : History Event
+locked = start ▷ wrote 0 18 0 0
+
+abbrev loadedAs : History Event → List ℕ → ℕ
+loadedAs h bytes = answerNumber (toLoad h bytes)
+
 abbrev numbered : ℕ → ℕ
 numbered n = answerNumber (refused n)
 
@@ -222,7 +264,27 @@ pub record Cited : Type 0 where
   pub statuses : (qualityOf 0xa3 ≡ 2) × (subStatusOf 0xa3 ≡ 8) × (qualityOf 0xc4 ≡ 3) × (subStatusOf 0xc4 ≡ 1)
   -- F1: the number of an answer: that of its ground, 0 if it is accepted
   pub numbers : (answerNumber Accepted ≡ 0) × (numbered 1 ≡ 1) × (numbered 2 ≡ 2) × (numbered 3 ≡ 3) × (numbered 4 ≡ 4) × (numbered 5 ≡ 5)
-      × (numbered 6 ≡ 6) × (numbered 7 ≡ 7) × (numbered 8 ≡ 8)
+      × (numbered 6 ≡ 6) × (numbered 7 ≡ 7) × (numbered 8 ≡ 8) × (numbered 9 ≡ 9) × (numbered 10 ≡ 10)
+  -- Q1.3: eight bytes are a pair, x and then y, and those behind them the next ones; fewer are none
+  pub pairs : (a b c d e f g h : ℕ) (s : List ℕ) → pairsIn (a ∷ b ∷ c ∷ d ∷ e ∷ f ∷ g ∷ h ∷ s)
+      ≡ point (a * 2 ^ 24 + b * 2 ^ 16 + c * 2 ^ 8 + d) (e * 2 ^ 24 + f * 2 ^ 16 + g * 2 ^ 8 + h) ∷ pairsIn s
+  pub rest : (a b c d e f g : ℕ) → (pairsIn [] ≡ []) × (pairsIn (a ∷ b ∷ c ∷ d ∷ e ∷ f ∷ g ∷ []) ≡ [])
+  pub weirs : pairsIn weir ≡ weirPairs
+  -- Q1.4 to Q1.7: between two pairs, at an inner x, before the first x, from the last x on, and what isn't finite. 10 + ((1.9 − 1) × 60) / 3 is 28 in singles
+  pub curve : (linear weirPairs (floatOf 0x3ff3_3333) ≡ floatOf 0x41e0_0000) × (linear weirPairs (whole 4) ≡ whole 70)
+      × (linear weirPairs (floatOf 0xbf80_0000) ≡ whole 0) × (linear weirPairs (whole 7) ≡ whole 100) × (linear weirPairs (whole 8) ≡ whole 100)
+      × (linear weirPairs (floatOf notANumber) ≡ floatOf notANumber) × (linear weirPairs (floatOf minusInfinity) ≡ floatOf minusInfinity)
+  -- at the first x the line serves and not its y: −0 + 0 is +0, and from −0 on −0 + −0 is −0; 0 × infinity is no number, 1 × infinity is infinite
+  pub starts : (linear signed (floatOf 0) ≡ floatOf 0) × (linear signed (floatOf 0x8000_0000) ≡ floatOf 0x8000_0000)
+      × (linear wide (floatOf 0) ≡ floatOf notANumber) × (linear wide (whole 1) ≡ floatOf infinity)
+  -- Q1.3, Q1.5: the table comes before the scales: 1.9 becomes 28, and PV_SCALE 4, 20 with OUT_SCALE 3, 15 makes 21 of it
+  pub linearised : (scaled (byTable ▷ wrote 1 11 0x4080_0000 0x41a0_0000 ▷ wrote 1 12 0x4040_0000 0x4170_0000) (pair 0x3ff3_3333 0x80) ≡ whole 21)
+      × (scaled (byTable ▷ wrote 1 13 0 0 ▷ wrote 1 11 0 0x4280_0000 ▷ wrote 1 12 0 0x4280_0000) (pair 0x4100_0000 0x80) ≡ whole 8)
+  -- Q1.10, Q1.11: none, one pair, a byte missing or too many, 22 pairs; then −0 before 0, a falling x, what isn't finite; locked before that
+  pub loads : (loadedAs start weir ≡ 0) × (loadedAs start [] ≡ 9) × (loadedAs start (eight 0 0) ≡ 9) × (loadedAs start (drop 1 slope) ≡ 9)
+      × (loadedAs start (0 ∷ slope) ≡ 9) × (loadedAs start (eight 0x8000_0000 0 ++ eight 0 0) ≡ 10) × (loadedAs start (eight 0x3f80_0000 0 ++ eight 0 0) ≡ 10)
+      × (loadedAs start (eight 0 infinity ++ eight 0x3f80_0000 0) ≡ 10) × (loadedAs start (eight 0 0 ++ eight notANumber 0) ≡ 10)
+      × (loadedAs locked weir ≡ 4) × (loadedAs locked [] ≡ 4)
   -- B2: a block's five bytes of a buffer with room for an image, and where they lie: five for each block before it behind the buffer's front
   pub part : (s : List ℕ) (block : ℕ) (place : ℕ × ℕ)
       → (partOf s block ≡ cond (leb 15 (length s) && leb 1 block && leb block 3) (take 5 (drop (5 * (block - 1)) s)) [])
@@ -233,7 +295,7 @@ pub record Cited : Type 0 where
       × Modes false (one 0x80 ∷ one 0x10 ∷ one 0x08 ∷ []) (one 0x02 ∷ one 0 ∷ one 0x18 ∷ words 0x08 1 ∷ []) 2 5
       × Modes true (one 0x80 ∷ one 0x10 ∷ one 0x08 ∷ one 0x02 ∷ []) (one 0x04 ∷ one 0 ∷ one 0x0a ∷ words 0x02 1 ∷ []) 3 5
   pub ends : Ends 1 11 × Ends 1 12 × Ends 3 11 × Ends 3 38
-  pub codes : UpTo 2 1 17 × UpTo 2 2 13 × UpTo 3 2 14 × UpTo 2 2 15 × UpTo 65535 3 23 × UpTo 2 3 24 × UpTo 1 3 36
+  pub codes : UpTo 1 1 13 × UpTo 2 1 17 × UpTo 2 2 13 × UpTo 3 2 14 × UpTo 2 2 15 × UpTo 65535 3 23 × UpTo 2 3 24 × UpTo 1 3 36
   -- 0 to 3600, and ±10^9
   pub ranges : Within 0 0x8000_0001 0x4561_0000 0x4561_0001 1 16 × Within 0xce6e_6b28 0xce6e_6b29 0x4e6e_6b28 0x4e6e_6b29 2 16
   pub finites : Finite 1 18 × Finite 3 25

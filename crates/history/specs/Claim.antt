@@ -14,9 +14,9 @@ use Rattle.ao.specs.declared.Order.{Order}
 use Rattle.parameters.specs.declared.Words.{Words}
 use Rattle.device.specs.declared.Device.{Device}
 use Rattle.device.specs.Read.{readOf}
-use Rattle.device.specs.Calls.{telegramOf, writeOf}
+use Rattle.device.specs.Calls.{telegramOf, writeOf, loadOf}
 use Rattle.history.specs.Past.{History, Each}
-use Rattle.history.specs.Calls.{Call, tick, write, warmStart, Event, ticked, telegram, wrote, warmed, event, reached, trace}
+use Rattle.history.specs.Calls.{Call, tick, write, load, warmStart, Event, ticked, telegram, wrote, loaded, warmed, event, reached, trace}
 use Rattle.history.specs.Rules.{isAuto, answer, accepted, calculated, filterValue, total, order, reading, toImage, image}
 
 -- R8: Good is quality 2, and not 3
@@ -34,6 +34,7 @@ abbrev pub Tick : History Event → Event → Type 0
 Tick h (ticked fault ain tot ainOut aoOut given) = TickClaim h fault ain ainOut given
 Tick h (telegram input bytes) = Unit
 Tick h (wrote block number a b) = Unit
+Tick h (loaded bytes) = Unit
 Tick h warmed = Unit
 
 -- what a device answers a call; ticks and warm starts have no answer to refuse with and count as accepted
@@ -41,6 +42,7 @@ abbrev pub answers : Device → Call → Answer
 answers d (tick fault ain tot) = Accepted
 answers d (Call.telegram input bytes) = telegramOf d input bytes .answer
 answers d (write block number a b) = writeOf d block number a b .answer
+answers d (load bytes) = loadOf d bytes .answer
 answers d warmStart = Accepted
 
 -- what is claimed of a list of calls, h being its accepted events

@@ -10,8 +10,9 @@ use Rattle.wire.specs.declared.Pair.{Pair}
 use Rattle.wire.specs.Bytes.{wordOf}
 use Rattle.device.specs.Factory.{factoryDevice}
 use Rattle.history.specs.declared.Step.{Step}
-use Rattle.history.specs.declared.Step.the-variants.{WarmStart, Tick, Write, Telegram, Malformed}
+use Rattle.history.specs.declared.Step.the-variants.{WarmStart, Tick, Write, Telegram, Load, Malformed}
 use Rattle.history.specs.declared.Found.{Found}
+use Rattle.history.specs.declared.Lent.{Lent}
 use Rattle.history.specs.declared.Replayed.{Replayed}
 use Rattle.history.specs.Calls.{Call, Event, reached, trace}
 use Rattle.history.specs.Past.{History}
@@ -27,9 +28,9 @@ wordAt s at = wordOf (getD s at 0) (getD s (at + 1) 0) (getD s (at + 2) 0) (getD
 unfoldable pub pairAt : List ℕ → ℕ → Pair
 pairAt s at = record { bits = wordAt s at; status = getD s (at + 4) 0 }
 
--- the length of a telegram: eight bytes, two places on
+-- the length of lent bytes: eight bytes
 abbrev pub lengthAt : List ℕ → ℕ → ℕ
-lengthAt s at = wordAt s (at + 2) * 0x1_0000_0000 + wordAt s (at + 6)
+lengthAt s at = wordAt s at * 0x1_0000_0000 + wordAt s (at + 4)
 
 abbrev pub found : Step → ℕ → Found
 found step next = record { step = step; next = next }
@@ -49,11 +50,26 @@ writeFound s at =
     cond (ltb (length s - at) 11) (bad at)
     (found (Write (getD s (at + 1) 0) (getD s (at + 2) 0) (wordAt s (at + 3)) (wordAt s (at + 7))) (at + 11))
 
--- a telegram is ten and as many as its length says, which must be there
+-- bytes that a call lends, behind its first ones and their length: how many, and whether they are there; if not, none
+abbrev missing : Lent
+missing = record { n = 0; there = false }
+
+unfoldable pub lentBy : List ℕ → ℕ → ℕ → Lent
+lentBy s at head =
+    cond (ltb (length s - at) (head + 8)) missing
+    (cond (ltb (length s - at - (head + 8)) (lengthAt s (at + head))) missing (record { n = lengthAt s (at + head); there = true }))
+
+-- a telegram is ten bytes and those lent
 unfoldable pub telegramFound : List ℕ → ℕ → Found
 telegramFound s at =
-    cond (ltb (length s - at) 10) (bad at)
-    (cond (ltb (length s - at - 10) (lengthAt s at)) (bad at) (found (Telegram (getD s (at + 1) 0) (lengthAt s at)) (at + 10 + lengthAt s at)))
+    let lent = lentBy s at 2 in
+    cond (lent .there) (found (Telegram (getD s (at + 1) 0) (lent .n)) (at + 10 + lent .n)) (bad at)
+
+-- a load nine
+unfoldable pub loadFound : List ℕ → ℕ → Found
+loadFound s at =
+    let lent = lentBy s at 1 in
+    cond (lent .there) (found (Load (lent .n)) (at + 9 + lent .n)) (bad at)
 
 -- the call at a place, and where the next one starts
 unfoldable pub stepAt : List ℕ → ℕ → Found
@@ -61,21 +77,24 @@ stepAt s at =
     cond (eqb (getD s at 0) 0) (found WarmStart (at + 1))
     (cond (eqb (getD s at 0) 1) (tickFound s at)
     (cond (eqb (getD s at 0) 2) (writeFound s at)
-    (cond (eqb (getD s at 0) 3) (telegramFound s at) (bad at))))
+    (cond (eqb (getD s at 0) 3) (telegramFound s at)
+    (cond (eqb (getD s at 0) 4) (loadFound s at) (bad at)))))
 
 abbrev pub isMalformed : Step → Bool
 isMalformed WarmStart = false
 isMalformed (Tick fault ain tot) = false
 isMalformed (Write block number a b) = false
 isMalformed (Telegram input n) = false
+isMalformed (Load n) = false
 isMalformed Malformed = true
 
--- the call that it is; a telegram's bytes start ten places on
+-- the call that it is; a telegram's bytes start ten places on, a load's nine
 abbrev pub callOf : List ℕ → ℕ → Step → Call
 callOf s at WarmStart = Call.warmStart
 callOf s at (Tick fault ain tot) = Call.tick fault ain tot
 callOf s at (Write block number a b) = Call.write block number a b
 callOf s at (Telegram input n) = Call.telegram input (take n (drop (at + 10) s))
+callOf s at (Load n) = Call.load (take n (drop (at + 9) s))
 callOf s at Malformed = Call.warmStart
 
 abbrev pub more : Call → Option (List Call) → Option (List Call)

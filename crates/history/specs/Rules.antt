@@ -1,6 +1,6 @@
--- The history rules of document 01: what the head answers, from the accepted events alone (R2): the arguments of calls, and OUT of AIN and AO as read
--- after each tick. Every memory and every choice is said here. What is cited of other crates, arithmetic, encodings and the table's allowed words, is listed
--- in tests/cited and pinned in Cited.
+-- The history rules of document 01, with request 1 of document 02: what the head answers, from the accepted events alone (R2): the arguments of calls, and
+-- OUT of AIN and AO as read after each tick. Every memory and every choice is said here. What is cited of other crates, arithmetic, encodings and the
+-- table's allowed words, is listed in tests/cited and pinned in Cited.
 -- A letter and number before a colon is a sentence of the paper, as docs/TRACE.md counts them. Assumes nothing.
 use Prim.Native.Nat.{ℕ, _+_, _*_, _%_}
 use mathlib.Core.Bool.{Bool, true, false, not, _&&_, _||_, cond}
@@ -15,6 +15,8 @@ use lib.ListN.{length, drop}
 use Rattle.numbers.specs.Floats.{floatOf, bitsOf}
 use Rattle.scaling.specs.declared.Scale.{Scale}
 use Rattle.scaling.specs.Scaling.{fractionOf, atFraction}
+use Rattle.linearisation.specs.declared.Point.{Point}
+use Rattle.linearisation.specs.Table.{pairsIn}
 use Rattle.wire.specs.declared.Pair.{Pair}
 use Rattle.wire.specs.declared.Answer.{Answer}
 use Rattle.wire.specs.declared.Answer.the-variants.{Accepted, Refused}
@@ -32,8 +34,8 @@ use Rattle.parameters.specs.Table.{entryOf}
 use Rattle.parameters.specs.Words.{allowsOf}
 use Rattle.device.specs.declared.Reading.{Reading}
 use Rattle.device.specs.declared.Reading.the-variants.{Read}
-use Rattle.history.specs.Past.{History, start, _▷_, count, countSince, since, latest, carried}
-use Rattle.history.specs.Calls.{Event, ticked, telegram, wrote, warmed, words}
+use Rattle.history.specs.Past.{History, start, _▷_, count, countSince, since, told, latest, carried}
+use Rattle.history.specs.Calls.{Event, ticked, telegram, wrote, loaded, warmed, words}
 
 -- ---- the kinds of events
 
@@ -41,6 +43,7 @@ abbrev pub isTick : Event → Bool
 isTick (ticked fault ain tot ainOut aoOut order) = true
 isTick (telegram input bytes) = false
 isTick (wrote block number a b) = false
+isTick (loaded bytes) = false
 isTick warmed = false
 
 -- R5: the factory call starts a history, and a warm start starts it anew
@@ -48,6 +51,7 @@ abbrev pub isStart : Event → Bool
 isStart (ticked fault ain tot ainOut aoOut order) = false
 isStart (telegram input bytes) = false
 isStart (wrote block number a b) = false
+isStart (loaded bytes) = false
 isStart warmed = true
 
 -- what a tick, a start and any other event lead to
@@ -55,6 +59,7 @@ abbrev pub onTick : {A : Type 0} → (Bool → Pair → Pair → Words → Words
 onTick f s other (ticked fault ain tot ainOut aoOut order) = f fault ain tot ainOut aoOut
 onTick f s other (telegram input bytes) = other
 onTick f s other (wrote block number a b) = other
+onTick f s other (loaded bytes) = other
 onTick f s other warmed = s
 
 -- ---- parameters
@@ -66,10 +71,10 @@ pair bits status = record { bits = bits; status = status }
 abbrev pub ofBlock : {A : Type 0} → A → A → A → A → A → ℕ → A
 ofBlock physical ain tot ao other block = cond (eqb block 0) physical (cond (eqb block 1) ain (cond (eqb block 2) tot (cond (eqb block 3) ao other)))
 
--- P3, P10 to P13e: the static parameters of AIN (TARGET_MODE, both scales, PV_FTIME, type and value of the fail-safe, ALARM_HYS, four limits), of TOT
--- (TARGET_MODE, FAIL_TOT, PRESET_TOT) and of AO (TARGET_MODE, PV_SCALE, time, type and value of the fail-safe, INCREASE_CLOSE, OUT_SCALE)
+-- P3, P10 to P13e, Q1.3: the static parameters of AIN (TARGET_MODE, both scales, LIN_TYPE, PV_FTIME, type and value of the fail-safe, ALARM_HYS, four
+-- limits), of TOT (TARGET_MODE, FAIL_TOT, PRESET_TOT) and of AO (TARGET_MODE, PV_SCALE, time, type and value of the fail-safe, INCREASE_CLOSE, OUT_SCALE)
 unfoldable pub statics : ℕ → List ℕ
-statics = ofBlock [] (5 ∷ 11 ∷ 12 ∷ 16 ∷ 17 ∷ 18 ∷ 19 ∷ 21 ∷ 23 ∷ 25 ∷ 27 ∷ []) (5 ∷ 15 ∷ 16 ∷ []) (5 ∷ 11 ∷ 23 ∷ 24 ∷ 25 ∷ 36 ∷ 38 ∷ []) []
+statics = ofBlock [] (5 ∷ 11 ∷ 12 ∷ 13 ∷ 16 ∷ 17 ∷ 18 ∷ 19 ∷ 21 ∷ 23 ∷ 25 ∷ 27 ∷ []) (5 ∷ 15 ∷ 16 ∷ []) (5 ∷ 11 ∷ 23 ∷ 24 ∷ 25 ∷ 36 ∷ 38 ∷ []) []
 
 -- P3, P9, P12b, P12c: those that are kept and not counted: WRITE_LOCKING; SET_TOT and MODE_TOT. TOTAL, which is kept too, is among the outputs
 unfoldable pub kepts : ℕ → List ℕ
@@ -117,6 +122,7 @@ abbrev pub wordsTo : ℕ → ℕ → Event → Option Words
 wordsTo block number (ticked fault ain tot ainOut aoOut order) = none
 wordsTo block number (telegram input bytes) = none
 wordsTo block number (wrote block′ number′ a b) = cond (eqb block′ block && eqb number′ number) (some (words a b)) none
+wordsTo block number (loaded bytes) = none
 wordsTo block number warmed = none
 
 abbrev pub orElse : {A : Type 0} → A → Option A → A
@@ -139,6 +145,48 @@ float h block number = floatOf (stored h block number .first)
 
 abbrev pub scale : History Event → ℕ → ℕ → Scale
 scale h block number = record { low = floatOf (stored h block number .first); high = floatOf (stored h block number .second) }
+
+-- ---- the linearisation table
+
+-- the pairs that a load brings
+abbrev pub pairsTold : Event → Option (List Point)
+pairsTold (ticked fault ain tot ainOut aoOut order) = none
+pairsTold (telegram input bytes) = none
+pairsTold (wrote block number a b) = none
+pairsTold (loaded bytes) = some (pairsIn bytes)
+pairsTold warmed = none
+
+-- Q1.9a: the table in force is that of the last accepted load, before one it has no pairs; a warm start leaves it
+unfoldable pub table : History Event → List Point
+table h = orElse [] (latest pairsTold never h)
+
+abbrev pub isSome : {A : Type 0} → Option A → Bool
+isSome none = false
+isSome (some a) = true
+
+-- whether a table came
+unfoldable pub tabled : History Event → Bool
+tabled h = isSome (latest pairsTold never h)
+
+-- Q1.4, Q1.5: what the last pair with its x at or below a value makes of it: with a pair behind it a place on the line through both, each
+-- operation rounded, product, quotient and sum in this order; Q1.7: without one its own y
+abbrev pub along : Point → List Point → Float → Float
+along p [] x = p .y
+along p (q ∷ qs) x =
+    add binary32 (p .y) (div binary32 (mul binary32 (sub binary32 x (p .x)) (sub binary32 (q .y) (p .y))) (sub binary32 (q .x) (p .x)))
+
+unfoldable pub said : List Point → Float → Option Float
+said [] x = none
+said (p ∷ ps) x = told (said ps x) (cond (le (p .x) x) (some (along p ps x)) none)
+
+-- Q1.7: a value below the first x gets the first y
+abbrev pub lowest : List Point → Float → Float
+lowest [] x = x
+lowest (p ∷ ps) x = p .y
+
+-- Q1.6: what a value becomes by the pairs, if it is finite; another stays
+unfoldable pub linear : List Point → Float → Float
+linear ps x = cond (finite x) (orElse (lowest ps x) (said ps x)) x
 
 -- ---- modes
 
@@ -180,26 +228,53 @@ allowedIn (Parameter class allowed) a b = allowsOf allowed a b
 abbrev pub refused : ℕ → Answer
 refused n = Refused (ground n)
 
+-- Q1.10: LIN_TYPE 1 is written and no table came
+abbrev pub lacksTable : History Event → ℕ → ℕ → ℕ → Bool
+lacksTable h block number a = eqb block 1 && eqb number 13 && eqb a 1 && not (tabled h)
+
 -- F2 to F8: the grounds on which a write is refused, the first that is met: there is no such block (1); it has no such parameter (2); that one is read only
--- (3); the device is locked and it isn't the lock (4); its words are not allowed (5); it is an output and the block's target isn't Man (6)
+-- (3); the device is locked and it isn't the lock (4); its words are not allowed, or it lacks a table (5); it is an output and the block's target isn't
+-- Man (6)
 unfoldable pub toWrite : History Event → ℕ → ℕ → ℕ → ℕ → Answer
 toWrite h block number a b =
     cond (ltb 3 block) (refused 1)
     (cond (not (has block number)) (refused 2)
     (cond (among (readOnlys block) number) (refused 3)
     (cond (eqb (code h 0 18) 0 && not (eqb block 0)) (refused 4)
-    (cond (not (allowedIn (entryOf block number) a b)) (refused 5)
+    (cond (not (allowedIn (entryOf block number) a b && not (lacksTable h block number a))) (refused 5)
     (cond (among (outputs block) number && not (eqb (code h block 5) man)) (refused 6) Accepted)))))
 
 -- F2, F9, F10: a telegram is refused on an input other than 0 and 1 (8), and then if it has not five bytes (7)
 unfoldable pub toTelegram : ℕ → List ℕ → Answer
 toTelegram input bytes = cond (ltb 1 input) (refused 8) (cond (not (eqb (length bytes) 5)) (refused 7) Accepted)
 
+-- Q1.3, Q1.11: whole pairs of eight bytes, from 2 to 21 of them
+unfoldable pub isWhole : ℕ → Bool
+isWhole n = eqb (n % 8) 0 && not (ltb n 16) && not (ltb 168 n)
+
+-- Q1.11: every x and y is finite, and each x is a lower number than the next one's
+abbrev pub allFinite : List Point → Bool
+allFinite [] = true
+allFinite (p ∷ ps) = finite (p .x) && finite (p .y) && allFinite ps
+
+abbrev pub rising : List Point → Bool
+rising [] = true
+rising (p ∷ []) = true
+rising (p ∷ q ∷ ps) = lt (p .x) (q .x) && rising (q ∷ ps)
+
+-- Q1.10, Q1.11: a load is refused while the device is locked (4), then if it isn't 2 to 21 whole pairs (9), then if they do not rise or aren't finite (10)
+unfoldable pub toLoad : History Event → List ℕ → Answer
+toLoad h bytes =
+    cond (eqb (code h 0 18) 0) (refused 4)
+    (cond (not (isWhole (length bytes))) (refused 9)
+    (cond (not (allFinite (pairsIn bytes) && rising (pairsIn bytes))) (refused 10) Accepted))
+
 -- what a call is answered, by the events accepted before it; no ground is met by a tick or a warm start
 abbrev pub answer : History Event → Event → Answer
 answer h (ticked fault ain tot ainOut aoOut order) = Accepted
 answer h (telegram input bytes) = toTelegram input bytes
 answer h (wrote block number a b) = toWrite h block number a b
+answer h (loaded bytes) = toLoad h bytes
 answer h warmed = Accepted
 
 abbrev pub isAccepted : Answer → Bool
@@ -217,9 +292,10 @@ abbrev pub isStaticWrite : ℕ → Event → Bool
 isStaticWrite block (ticked fault ain tot ainOut aoOut order) = false
 isStaticWrite block (telegram input bytes) = false
 isStaticWrite block (wrote block′ number a b) = eqb block′ block && among (statics block) number
+isStaticWrite block (loaded bytes) = eqb block 1
 isStaticWrite block warmed = false
 
--- R11: ST_REV counts a block's accepted static writes, whether or not they change a value, and is 0 again after 65,535
+-- R11, Q1.9a: ST_REV counts a block's accepted static writes, a load as one of AIN's, whether or not they change a value, and is 0 again after 65,535
 unfoldable pub stRev : History Event → ℕ → ℕ
 stRev h block = count (isStaticWrite block) h % 65536
 
@@ -254,9 +330,13 @@ ifUsable (some bad) a other = other
 
 -- ---- AIN
 
--- A1: the input's place in PV_SCALE, as a value in OUT_SCALE
+-- Q1.3: what is scaled: under LIN_TYPE 1 what the table makes of the input, otherwise the input
+abbrev pub measured : History Event → Float → Float
+measured h x = cond (eqb (code h 1 13) 1) (linear (table h) x) x
+
+-- A1: its place in PV_SCALE, as a value in OUT_SCALE
 unfoldable pub scaled : History Event → Pair → Float
-scaled h ain = atFraction (scale h 1 12) (fractionOf (scale h 1 11) (floatOf (ain .bits)))
+scaled h ain = atFraction (scale h 1 12) (fractionOf (scale h 1 11) (measured h (floatOf (ain .bits))))
 
 -- A2: a filter step from the filter value towards the scaled value, by the ticks in PV_FTIME and one; without a filter value, or with PV_FTIME 0, the
 -- scaled value itself
@@ -411,6 +491,7 @@ abbrev pub totalAfter : History Event → Event → ℤ → ℤ
 totalAfter h (ticked fault ain tot ainOut aoOut order) total = cond (isAuto h fault 2) (totalBy h tot total) total
 totalAfter h (telegram input bytes) total = total
 totalAfter h (wrote block number a b) total = cond (eqb block 2 && eqb number 10) (thousandthsOf (floatOf a)) total
+totalAfter h (loaded bytes) total = total
 totalAfter h warmed total = total
 
 -- R13: the total, at first 0
@@ -446,6 +527,7 @@ abbrev pub pairOn : ℕ → Event → Option Pair
 pairOn input (ticked fault ain tot ainOut aoOut order) = none
 pairOn input (telegram input′ bytes) = cond (eqb input′ input) (valueOn (pairOf bytes)) none
 pairOn input (wrote block number a b) = none
+pairOn input (loaded bytes) = none
 pairOn input warmed = none
 
 abbrev pub holds : (Pair → Bool) → Option Pair → Bool

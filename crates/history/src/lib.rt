@@ -6,10 +6,11 @@
 //   1 fault, AIN's bits (4) and status, TOT's bits (4) and status      tick; fault is 0 or 1
 //   2 block, parameter, first word (4), second word (4)   write
 //   3 input, length (8), that many bytes                  telegram
+//   4 length (8), that many bytes                         load
 ghost use mathlib.Core.Path.{_≡_};
-ghost use Prim.Native.Nat.{_+_, _<_, _^_};
+ghost use Prim.Native.Nat.{_+_, _<_, _≤_, _^_};
 ghost use lib.ListN.{getD, take, drop, length};
-ghost use Rattle.history.specs.Encoded.{wordAt, pairAt, found, tickFound, writeFound, telegramFound, stepAt, isMalformed, callOf, Replays, heard};
+ghost use Rattle.history.specs.Encoded.{wordAt, pairAt, found, tickFound, writeFound, lentBy, telegramFound, loadFound, stepAt, isMalformed, callOf, Replays, heard};
 ghost use Rattle.history.specs.Calls.{after};
 ghost use Rattle.history.specs.Rules as Rules;
 use ao::Order;
@@ -18,12 +19,13 @@ use device::Reading;
 use wire::Answer;
 use wire::Pair;
 
-// A call as it stands in an encoded list; a telegram by its input and length.
+// A call as it stands in an encoded list; a telegram by its input and length, a load by its length.
 pub enum Step {
     WarmStart,
     Tick(bool, Pair, Pair),
     Write(u8, u8, u32, u32),
     Telegram(u8, usize),
+    Load(usize),
     Malformed,
 }
 
@@ -119,25 +121,62 @@ fn write_at(s: &[u8], at: usize) -> Found
     }
 }
 
+// Bytes that a call lends: how many, and whether they are there.
+pub struct Lent {
+    pub n: usize,
+    pub there: bool,
+}
+
+// The bytes lent by the call at a place, their length standing a head after it.
+fn lent_at(s: &[u8], at: usize, head: usize) -> Lent
+    requires { ⌜ (at < length (now s)) × (head < 3) ⌝ }
+    ensures { λ r. ⌜ r ≡ lentBy (now (s .entry)) at head ⌝ }
+    ensures { λ r. ⌜ at + r .n ≤ length (now (s .entry)) ⌝ }
+{
+    let left = s.len() - at;
+    if left < head + 8 {
+        return Lent { n: 0, there: false };
+    }
+    let high = word_at(s, at + head);
+    let low = word_at(s, at + head + 4);
+    let n = high as usize * 0x1_0000_0000 + low as usize;
+    if left - (head + 8) < n {
+        return Lent { n: 0, there: false };
+    }
+    Lent { n: n, there: true }
+}
+
 fn telegram_at(s: &[u8], at: usize) -> Found
     requires { ⌜ at < length (now s) ⌝ }
     ensures { λ r. ⌜ r ≡ telegramFound (now (s .entry)) at ⌝ }
 {
-    let left = s.len() - at;
-    if left < 10 {
-        return malformed(at);
+    let lent = lent_at(s, at, 2);
+    let there = lent.there;
+    let n = lent.n;
+    if there {
+        let input = byte_at(s, at + 1);
+        return Found {
+            step: Step::Telegram(input, n),
+            next: at + 10 + n,
+        };
     }
-    let input = byte_at(s, at + 1);
-    let high = word_at(s, at + 2);
-    let low = word_at(s, at + 6);
-    let n = high as usize * 0x1_0000_0000 + low as usize;
-    if left - 10 < n {
-        return malformed(at);
+    malformed(at)
+}
+
+fn load_at(s: &[u8], at: usize) -> Found
+    requires { ⌜ at < length (now s) ⌝ }
+    ensures { λ r. ⌜ r ≡ loadFound (now (s .entry)) at ⌝ }
+{
+    let lent = lent_at(s, at, 1);
+    let there = lent.there;
+    let n = lent.n;
+    if there {
+        return Found {
+            step: Step::Load(n),
+            next: at + 9 + n,
+        };
     }
-    Found {
-        step: Step::Telegram(input, n),
-        next: at + 10 + n,
-    }
+    malformed(at)
 }
 
 fn step_at(s: &[u8], at: usize) -> Found
@@ -149,6 +188,7 @@ fn step_at(s: &[u8], at: usize) -> Found
     let tick = kind == 1;
     let write = kind == 2;
     let telegram = kind == 3;
+    let load = kind == 4;
     if warm {
         return Found {
             step: Step::WarmStart,
@@ -163,6 +203,9 @@ fn step_at(s: &[u8], at: usize) -> Found
     }
     if telegram {
         return telegram_at(s, at);
+    }
+    if load {
+        return load_at(s, at);
     }
     malformed(at)
 }
@@ -188,6 +231,7 @@ fn is_malformed(step: Step) -> bool
         Step::Tick(_, _, _) => false,
         Step::Write(_, _, _, _) => false,
         Step::Telegram(_, _) => false,
+        Step::Load(_) => false,
         Step::Malformed => true,
     }
 }
@@ -211,6 +255,11 @@ fn made(d: Device, s: &[u8], at: usize, step: Step) -> Device
             let bytes = bytes_at(s, at + 10, n);
             let taken = device::telegram(d, input, bytes);
             taken.device
+        }
+        Step::Load(n) => {
+            let bytes = bytes_at(s, at + 9, n);
+            let loaded = device::load(d, bytes);
+            loaded.device
         }
         Step::Malformed => device::warm_start(d),
     }
@@ -290,6 +339,14 @@ pub fn telegram_after(calls: &[u8], input: u8, bytes: &[u8]) -> Answer
     let replayed = replay(calls);
     let taken = device::telegram(replayed.device, input, bytes);
     taken.answer
+}
+
+pub fn load_after(calls: &[u8], bytes: &[u8]) -> Answer
+    ensures { λ r. ⌜ r ≡ Rules.toLoad (heard (now (calls .entry))) (now (bytes .entry)) ⌝ }
+{
+    let replayed = replay(calls);
+    let loaded = device::load(replayed.device, bytes);
+    loaded.answer
 }
 
 // The bus image, from a buffer's first byte on.

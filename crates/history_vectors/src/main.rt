@@ -92,6 +92,27 @@ fn telegram(list: &mut [u8], at: usize, input: u8, high: u32, low: u32, bytes: &
     text::put_bytes(list, d, bytes)
 }
 
+// A load whose length is said in two words, and some bytes.
+fn load(list: &mut [u8], at: usize, high: u32, low: u32, bytes: &[u8]) -> usize {
+    let a = put_number(list, at, 4);
+    let b = put_word(list, a, high);
+    let c = put_word(list, b, low);
+    text::put_bytes(list, c, bytes)
+}
+
+// (0, 0) and (1, 10), and with them (4, 70) and (7, 100).
+fn slope(list: &mut [u8], at: usize) -> usize {
+    let table = b"\x00\x00\x00\x00\x00\x00\x00\x00\x3f\x80\x00\x00\x41\x20\x00\x00";
+    load(list, at, 0, 16, table)
+}
+
+fn weir(list: &mut [u8], at: usize) -> usize {
+    let steep = b"\x00\x00\x00\x00\x00\x00\x00\x00\x3f\x80\x00\x00\x41\x20\x00\x00";
+    let flat = b"\x40\x80\x00\x00\x42\x8c\x00\x00\x40\xe0\x00\x00\x42\xc8\x00\x00";
+    let next = load(list, at, 0, 32, steep);
+    text::put_bytes(list, next, flat)
+}
+
 // ---- what is asked after a list
 
 // The device after the first bytes of a buffer. The list's line begins; whether it was told malformed is looked at.
@@ -194,6 +215,7 @@ fn reads_ain(good: bool, r: Replayed) -> bool {
     let g = reads(g, r, 1, 7, 0, 0);
     let g = reads(g, r, 1, 11, 0, 0x42c8_0000);
     let g = reads(g, r, 1, 12, 0, 0x42c8_0000);
+    let g = reads(g, r, 1, 13, 0, 0);
     let g = reads(g, r, 1, 16, 0, 0);
     let g = reads(g, r, 1, 17, 1, 0);
     let g = reads(g, r, 1, 18, 0, 0);
@@ -573,8 +595,77 @@ fn total_after() {
 
 // ---- malformed lists
 
+// LIN_TYPE 1 is refused before a load (5). The load counts once and LIN_TYPE once; the warm start leaves the table.
+// 10 + ((1.9 - 1) * 60) / 3 = 28.
+fn by_table() {
+    let mut list = [0u8; 128];
+    let at = write(&mut list, 0, 1, 13, 1, 0);
+    let at = weir(&mut list, at);
+    let at = write(&mut list, at, 1, 13, 1, 0);
+    let at = warm_start(&mut list, at);
+    let at = tick(&mut list, at, 0x3ff3_3333);
+    let r = replayed(b"a tick by a table", &list, at);
+    let g = formed(r);
+    let g = reads(g, r, 1, 10, 0x41e0_0000, 0x80);
+    let g = reads(g, r, 1, 13, 1, 0);
+    end(reads(g, r, 1, 1, 2, 0));
+}
+
+// By the last table: 0.5 is 5 by (0, 0) (1, 10). A load of 15 bytes, one of falling x and one under the lock leave it.
+fn by_the_last_table() {
+    let mut list = [0u8; 256];
+    let at = weir(&mut list, 0);
+    let at = slope(&mut list, at);
+    let at = write(&mut list, at, 1, 13, 1, 0);
+    let at = load(
+        &mut list,
+        at,
+        0,
+        15,
+        b"\x00\x00\x00\x00\x00\x00\x00\x00\x3f\x80\x00\x00\x41\x20\x00",
+    );
+    let at = load(
+        &mut list,
+        at,
+        0,
+        16,
+        b"\x3f\x80\x00\x00\x00\x00\x00\x00\x00\x00\x00\x00\x00\x00\x00\x00",
+    );
+    let at = write(&mut list, at, 0, 18, 0, 0);
+    let at = weir(&mut list, at);
+    let at = tick(&mut list, at, 0x3f00_0000);
+    let r = replayed(b"refused loads leave the last table", &list, at);
+    let g = formed(r);
+    let g = reads(g, r, 1, 10, 0x40a0_0000, 0x80);
+    end(reads(g, r, 1, 1, 3, 0));
+}
+
+// Locked is 4, also of no byte; else no byte is 9, falling x 10, and the first table of a head 0.
+fn loads_after() {
+    let mut list = [0u8; 128];
+    let steep = b"\x00\x00\x00\x00\x00\x00\x00\x00\x3f\x80\x00\x00\x41\x20\x00\x00";
+    let falling = b"\x3f\x80\x00\x00\x00\x00\x00\x00\x00\x00\x00\x00\x00\x00\x00\x00";
+    numbered(b"a load, fresh", history::load_after(b"", steep), 0);
+    numbered(
+        b"a load of no byte, fresh",
+        history::load_after(b"", b""),
+        9,
+    );
+    numbered(
+        b"a load of falling x, fresh",
+        history::load_after(b"", falling),
+        10,
+    );
+    let at = write(&mut list, 0, 0, 18, 0, 0);
+    numbered(
+        b"a load of no byte, locked",
+        history::load_after(first(&list, at), b""),
+        4,
+    );
+}
+
 fn no_such_kind() {
-    malformed(b"malformed, kind 4", b"\x04", 1);
+    malformed(b"malformed, kind 5", b"\x05", 1);
     malformed(b"malformed, kind 255", b"\xff", 1);
 }
 
@@ -612,12 +703,20 @@ fn telegrams_malformed() {
     );
 }
 
+// A load with a byte less than its length, and one of 8 bytes, cut in its length.
+fn loads_malformed() {
+    let mut list = [0u8; 128];
+    let at = load(&mut list, 0, 0, 5, b"\x42\x48\x00\x00");
+    malformed(b"malformed, a load of 5 with 4 bytes", &list, at);
+    malformed(b"malformed, a load of 8 bytes, cut in its length", &list, 8);
+}
+
 // What stands before a malformed call does not count, nor what stands after it.
 fn good_then_malformed() {
     let mut list = [0u8; 128];
     let at = write(&mut list, 0, 1, 5, 0x10, 0);
     let at = tick(&mut list, at, 0x4248_0000);
-    let at = text::put_bytes(&mut list, at, b"\x04");
+    let at = text::put_bytes(&mut list, at, b"\x05");
     malformed(b"malformed after a write and a tick", &list, at);
     let at = warm_start(&mut list, at);
     malformed(b"malformed between good calls", &list, at);
@@ -647,9 +746,13 @@ fn main() {
     answers_after();
     image_after();
     total_after();
+    by_table();
+    by_the_last_table();
+    loads_after();
     no_such_kind();
     ticks_malformed();
     writes_malformed();
     telegrams_malformed();
+    loads_malformed();
     good_then_malformed();
 }

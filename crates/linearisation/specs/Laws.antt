@@ -6,8 +6,8 @@ use mathlib.Core.Bool.{Bool, true, false, not, _&&_, _||_, cond}
 use mathlib.Core.List.{List, [], _∷_, _++_, append-assoc}
 use lib.Dec.{T, eqb, leb, leb→le}
 use lib.Ieee.Fits.{and-l, and-r}
-use lib.ListN.{length, getD, take, drop, replicate, set, length-append, length-take, length-drop, length-replicate, take-append-drop, drop-of-length-le}
-use lib.Seq.{take-suc, take-all, take-length, drop-cons, drop-drop, getD-take, getD-drop, take-append-seam, drop-append-seam, set-at}
+use lib.ListN.{length, getD, take, drop, replicate, set, length-append, length-take, length-replicate, take-append-drop, drop-of-length-le}
+use lib.Seq.{take-suc, drop-cons, drop-drop, getD-take, getD-drop, take-append-seam, drop-append-seam, set-at}
 use lib.Ieee.{Float, nan, inf, fin, binary32, ofBits, lt, le, eq}
 use lib.Ieee.Scale.{finite}
 use Rattle.numbers.specs.Floats.{floatOf}
@@ -20,8 +20,17 @@ use Rattle.wire.specs.Bytes.{wordOf}
 use Rattle.wire.specs.Refusal.{ground}
 use Rattle.linearisation.specs.declared.Point.{Point}
 use Rattle.linearisation.specs.declared.Table.{Table}
-use Rattle.linearisation.specs.Table.{zeroPoint, padded, tableOf, pairsOf, pairFrom, pairsFrom, pairsIn, wholePairs, follow, allowed, refusedAs, loadedOf}
+use Rattle.linearisation.specs.Table.{zeroPoint, padded, tableOf, pairsOf, pairFrom, pairsFrom, pairsIn}
+use Rattle.linearisation.specs.Table.{wholePairs, follow, allowed, refusedAs, loadedOf}
 use Rattle.linearisation.specs.Value.{orHere, usedOn, between, firstY, byUsed, valueAt}
+
+pub turned : (b : Bool) → not b ≡ false → b ≡ true
+turned true e = refl
+turned false e = sym e
+
+-- what the logic has for a place of an array that nothing was written to
+abbrev pub unwritten : Point
+unwritten = record { x = nan; y = nan }
 
 -- ---- the pairs of bytes
 
@@ -243,7 +252,8 @@ used-last x (q ∷ qs) p rest e = go (used-last x qs p rest) (usedOn x qs) refl 
   where
     go : (usedOn x qs ≡ p ∷ rest → Last x qs p rest) → (u : List Point) → usedOn x qs ≡ u → (b : Bool) → le (q .x) x ≡ b
         → orHere u (cond b (q ∷ qs) []) ≡ p ∷ rest → Last x (q ∷ qs) p rest
-    go old [] f true l e = record { front = []; whole = e; below = ap (λ (y : Point). le (y .x) x) (sym (first e)) ∙ l; none = ap (usedOn x) (sym (others e)) ∙ f }
+    go old [] f true l e =
+        record { front = []; whole = e; below = ap (λ (y : Point). le (y .x) x) (sym (first e)) ∙ l; none = ap (usedOn x) (sym (others e)) ∙ f }
     go old [] f false l e = absurd (clash e)
     go old (r ∷ u) f b l e =
         let i = old (f ∙ e) in
@@ -292,10 +302,12 @@ above-none b x (p ∷ ps) l f =
     not-under false e up = refl
 
 -- the pairs behind some of an allowed list rise from the last of these on
-follow-behind : (b : Float) (front : List Point) (p : Point) (rest : List Point) → T (follow b (front ++ p ∷ rest)) → T (finite (p .x)) × T (follow (p .x) rest)
+follow-behind : (b : Float) (front : List Point) (p : Point) (rest : List Point) → T (follow b (front ++ p ∷ rest))
+    → T (finite (p .x)) × T (follow (p .x) rest)
 unfolding follow
 follow-behind b [] p rest f = (
-  and-l (finite (p .x)) (finite (p .y)) (and-l (finite (p .x) && finite (p .y)) (lt b (p .x)) (and-l (finite (p .x) && finite (p .y) && lt b (p .x)) (follow (p .x) rest) f)),
+  and-l (finite (p .x)) (finite (p .y))
+      (and-l (finite (p .x) && finite (p .y)) (lt b (p .x)) (and-l (finite (p .x) && finite (p .y) && lt b (p .x)) (follow (p .x) rest) f)),
   and-r (finite (p .x) && finite (p .y) && lt b (p .x)) (follow (p .x) rest) f,
 )
 follow-behind b (q ∷ front) p rest f =
@@ -320,5 +332,6 @@ inner-x front p q rest a =
     let t : T (follow (ofBits binary32 0xff80_0000) (front ++ p ∷ q ∷ rest)) = subst T (sym (follow-first (front ++ p ∷ q ∷ rest) ∙ a)) tt in
     let f = follow-behind (ofBits binary32 0xff80_0000) front p (q ∷ rest) t in
     let fine : finite (p .x) ≡ true = is-true (finite (p .x)) (f .0) in
-    let up = and-r (finite (q .x) && finite (q .y)) (lt (p .x) (q .x)) (and-l (finite (q .x) && finite (q .y) && lt (p .x) (q .x)) (follow (q .x) rest) (f .1)) in
+    let up = and-r (finite (q .x) && finite (q .y)) (lt (p .x) (q .x))
+    (and-l (finite (q .x) && finite (q .y) && lt (p .x) (q .x)) (follow (q .x) rest) (f .1)) in
     rw (fine, segment-used front p q rest (p .x) a (is-true (le (p .x) (p .x)) (le-refl-number (p .x) (finite-number (p .x) fine))) up)

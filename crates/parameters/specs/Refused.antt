@@ -55,7 +55,8 @@ abbrev pub lacksTable : Standing → ℕ → ℕ → ℕ → Bool
 lacksTable s block number a = eqb block 1 && eqb number 13 && eqb a 1 && not (s .table)
 
 -- F2 to F8: the grounds, the first that is met: no such block (1), none of its parameters (2), a read-only one (3), WRITE_LOCKING is 0 and another is
--- written (4; block 0 has WRITE_LOCKING alone, and its only other value is 2457), words not allowed, or Q1.10 (5), an output, its target being other than Man (6)
+-- written (4; block 0 has WRITE_LOCKING alone, and its only other value is 2457), words not allowed, or a table lacking (5), an output, its target being
+-- other than Man (6)
 abbrev pub groundBy : Standing → ℕ → ℕ → ℕ → ℕ → Entry → Answer
 groundBy s block number a b NoBlock = Refused (Refusal.ground 1)
 groundBy s block number a b NoParameter = Refused (Refusal.ground 2)

@@ -96,25 +96,32 @@ fn tick(d: Device, fault: bool, ain: Pair, tot: Pair, out: &mut [u8], at: usize)
     next
 }
 
-// The bytes' buffer is lent with the length that they have.
-fn telegram_in(
-    d: Device,
-    input: u8,
-    line: &[u8],
-    bytes: &mut [u8],
-    out: &mut [u8],
-    at: usize,
-) -> Done {
-    script::telegram_bytes(line, bytes);
-    let call = device::telegram(d, input, bytes);
-    answered(call, out, at)
+// Where the bytes of a line go: to a setpoint input, or into AIN's table.
+enum To {
+    Input(u8),
+    Table,
 }
 
-fn telegram(d: Device, input: u8, line: &[u8], length: usize, out: &mut [u8], at: usize) -> Done
-    requires { ⌜ length ≤ 64 ⌝ }
+// The bytes' buffer is lent with the length that they have.
+fn sent(d: Device, to: To, line: &[u8], bytes: &mut [u8]) -> Answered {
+    match to {
+        To::Input(input) => {
+            script::bytes_after(line, 2, bytes);
+            device::telegram(d, input, bytes)
+        }
+        To::Table => {
+            script::bytes_after(line, 1, bytes);
+            device::load(d, bytes)
+        }
+    }
+}
+
+fn send(d: Device, to: To, line: &[u8], length: usize, out: &mut [u8], at: usize) -> Done
+    requires { ⌜ length ≤ 256 ⌝ }
 {
-    let mut bytes = [0u8; 64];
-    telegram_in(d, input, line, &mut bytes[..length], out, at)
+    let mut bytes = [0u8; 256];
+    let call = sent(d, to, line, &mut bytes[..length]);
+    answered(call, out, at)
 }
 
 fn read(d: Device, block: u8, parameter: u8, out: &mut [u8], at: usize) -> Done {
@@ -247,7 +254,7 @@ fn run(d: Device, line: &[u8], out: &mut [u8], at: usize) -> Done {
             };
             tick(d, fault, ain, tot, out, at)
         }
-        Command::Telegram { input, length } => telegram(d, input, line, length, out, at),
+        Command::Telegram { input, length } => send(d, To::Input(input), line, length, out, at),
         Command::Write {
             block,
             parameter,
@@ -259,6 +266,7 @@ fn run(d: Device, line: &[u8], out: &mut [u8], at: usize) -> Done {
         Command::Image { length } => image(d, length, out, at),
         Command::Part { block, length } => part(d, block, length, out, at),
         Command::Total => reply(d, Answer::Total(device::total(d)), out, at),
+        Command::Load { length } => send(d, To::Table, line, length, out, at),
     }
 }
 

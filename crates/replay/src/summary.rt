@@ -58,7 +58,8 @@ fn ain_fails(d: Device, fault: bool, input: Pair) -> bool {
     let mut settings = block.settings;
     settings.fsafe_type = 2;
     let state = block.state;
-    let next = ain::tick(settings, state, fault, input.bits, input.status);
+    let table = block.table;
+    let next = ain::tick(settings, table, state, fault, input.bits, input.status);
     let auto = next.mode == blocks::AUTO;
     let bad = wire::quality(next.out.status) == 0;
     auto & bad

@@ -1,14 +1,14 @@
 -- What a line of the call script asks for, by its table. A line is a list of bytes, without its 0x0A. Assumes nothing.
-use Prim.Native.Nat.{ℕ, _-_}
-use mathlib.Core.Bool.{cond, _&&_}
+use Prim.Native.Nat.{ℕ, _≤_}
+use mathlib.Core.Bool.{Bool, cond, _&&_}
 use mathlib.Core.List.{List, [], _∷_}
 use lib.ListN.{length, getD, replicate}
 use lib.Dec.{leb, ltb, eqb}
 use Rattle.script.specs.declared.Name.{Name}
 use Rattle.script.specs.declared.Command.{Command}
-use Rattle.script.specs.Words.{wordsOf, isEmpty, firstOf, restOf, valuesOf, fitting, sameBytes}
+use Rattle.script.specs.Words.{wordsOf, isEmpty, firstOf, restOf, numberOf, upTo, wordValue, valuesOf, fitting, sameBytes}
 
--- the name that a call's first word is, each given by its bytes: tick, factory, telegram, write, warm, read, image, part, total
+-- the name that a call's first word is, each given by its bytes: tick, factory, telegram, write, warm, read, image, part, total, load
 unfoldable pub nameOf : List ℕ → Name
 nameOf w =
     cond (sameBytes w (116 ∷ 105 ∷ 99 ∷ 107 ∷ [])) Name.Tick
@@ -19,7 +19,8 @@ nameOf w =
     (cond (sameBytes w (114 ∷ 101 ∷ 97 ∷ 100 ∷ [])) Name.Read
     (cond (sameBytes w (105 ∷ 109 ∷ 97 ∷ 103 ∷ 101 ∷ [])) Name.Image
     (cond (sameBytes w (112 ∷ 97 ∷ 114 ∷ 116 ∷ [])) Name.Part
-    (cond (sameBytes w (116 ∷ 111 ∷ 116 ∷ 97 ∷ 108 ∷ [])) Name.Total Name.Other))))))))
+    (cond (sameBytes w (116 ∷ 111 ∷ 116 ∷ 97 ∷ 108 ∷ [])) Name.Total
+    (cond (sameBytes w (108 ∷ 111 ∷ 97 ∷ 100 ∷ [])) Name.Load Name.Other)))))))))
 
 -- the value of word k, of n
 abbrev pub valueAt : ℕ → List (List ℕ) → ℕ → ℕ
@@ -38,11 +39,15 @@ tickCall ws =
     (Command.Tick (eqb (valueAt 5 ws 0) 1) (valueAt 5 ws 1) (valueAt 5 ws 2) (valueAt 5 ws 3) (valueAt 5 ws 4))
     Command.Error
 
+-- "BYTE BYTE ..": at most so many, each 0 to 255
+abbrev pub areBytes : ℕ → List (List ℕ) → Bool
+areBytes most ws = leb (length ws) most && fitting (replicate (length ws) 255) ws
+
 -- `telegram INPUT BYTE BYTE ..` "(any number of bytes from none to 64)". "setpoint input, .. telegram byte: 0 to 255."
 unfoldable pub telegramCall : List (List ℕ) → Command
 telegramCall ws =
-    cond (leb 1 (length ws) && leb (length ws) 65 && fitting (replicate (length ws) 255) ws)
-    (Command.Telegram (valueAt (length ws) ws 0) (length ws - 1))
+    cond (upTo 255 (numberOf (firstOf ws)) && areBytes 64 (restOf ws))
+    (Command.Telegram (wordValue (firstOf ws)) (length (restOf ws)))
     Command.Error
 
 -- `write BLOCK PARAMETER WORD1 WORD2`. "Block, parameter .. : 0 to 255."
@@ -64,6 +69,10 @@ imageCall ws = cond (fitting (64 ∷ []) ws) (Command.Image (valueAt 1 ws 0)) Co
 unfoldable pub partCall : List (List ℕ) → Command
 partCall ws = cond (fitting (255 ∷ 64 ∷ []) ws) (Command.Part (valueAt 2 ws 0) (valueAt 2 ws 1)) Command.Error
 
+-- `load BYTE BYTE ..` "(none to 256 bytes)"
+unfoldable pub loadCall : List (List ℕ) → Command
+loadCall ws = cond (areBytes 256 ws) (Command.Load (length ws)) Command.Error
+
 unfoldable pub callOf : Name → List (List ℕ) → Command
 callOf Name.Factory ws = aloneCall Command.Factory ws
 callOf Name.Tick ws = tickCall ws
@@ -74,6 +83,7 @@ callOf Name.Read ws = readCall ws
 callOf Name.Image ws = imageCall ws
 callOf Name.Part ws = partCall ws
 callOf Name.Total ws = aloneCall Command.Total ws
+callOf Name.Load ws = loadCall ws
 -- "anything else | `error`"
 callOf Name.Other ws = Command.Error
 
@@ -85,16 +95,17 @@ commandOf line =
     (cond (eqb (getD line 0 0) 35) Command.Nothing
     (callOf (nameOf (firstOf (wordsOf line))) (restOf (wordsOf line)))))
 
--- how many bytes the call lends: the telegram's, or the buffer's; 0 of any other call
-abbrev pub lengthOf : Command → ℕ
-lengthOf Command.Nothing = 0
-lengthOf Command.Error = 0
-lengthOf Command.Factory = 0
-lengthOf (Command.Tick fault x s y t) = 0
-lengthOf (Command.Telegram input n) = n
-lengthOf (Command.Write block parameter a b) = 0
-lengthOf Command.Warm = 0
-lengthOf (Command.Read block parameter) = 0
-lengthOf (Command.Image n) = n
-lengthOf (Command.Part block n) = n
-lengthOf Command.Total = 0
+-- the bytes that a call lends, the line's or a buffer's, are as many as its row allows
+abbrev pub Within : Command → Type 0
+Within Command.Nothing = Unit
+Within Command.Error = Unit
+Within Command.Factory = Unit
+Within (Command.Tick fault x s y t) = Unit
+Within (Command.Telegram input n) = n ≤ 64
+Within (Command.Write block parameter a b) = Unit
+Within Command.Warm = Unit
+Within (Command.Read block parameter) = Unit
+Within (Command.Image n) = n ≤ 64
+Within (Command.Part block n) = n ≤ 64
+Within Command.Total = Unit
+Within (Command.Load n) = n ≤ 256

@@ -15,10 +15,11 @@ use Rattle.text.specs.Place.{replaced, placeAfter, bytesPut}
 use Rattle.text.specs.Digits.{hexByte}
 use Rattle.script.specs.declared.Name.{Name}
 use Rattle.script.specs.declared.Command.{Command}
-use Rattle.script.specs.Command.{nameOf, valueAt, tickCall, telegramCall, writeCall, readCall, imageCall, partCall, callOf, commandOf, lengthOf}
+use Rattle.script.specs.Command.{nameOf, valueAt, areBytes, tickCall, telegramCall, writeCall, readCall, imageCall, partCall, loadCall, callOf}
+use Rattle.script.specs.Command.{commandOf, Within}
 use Rattle.script.specs.Answer.{allPut, placeAfterAll, joined, rowParts}
 use Rattle.script.specs.Words.{some, wordsAfter, wordsOf, isEmpty, firstOf, restOf, between, NextWord, numberOf, upTo, valueOf, fitting, eachOf}
-use Rattle.script.specs.Words.{valuesOf, sameBytes}
+use Rattle.script.specs.Words.{wordValue, valuesOf, sameBytes}
 
 -- ---- words
 
@@ -188,6 +189,13 @@ pub word-counted : (line : List ℕ) (from to : ℕ) → from < to → to ≤ le
     → length (wordsOf (drop from line)) ≡ suc (length (wordsOf (drop to line)))
 word-counted line from to h k q = ap length (q ∙ some-between line from to (wordsOf (drop to line)) h k)
 
+pub rest-dropped : (ws : List (List ℕ)) (i : ℕ) → restOf (drop i ws) ≡ drop (i + 1) ws
+rest-dropped ws i = first (drop i ws) ∙ drop-drop 1 i ws
+  where
+    first : (vs : List (List ℕ)) → restOf vs ≡ drop 1 vs
+    first [] = refl
+    first (v ∷ vs) = refl
+
 -- ---- numbers
 
 -- the limits from a place on, and the words that they are for
@@ -215,11 +223,11 @@ filled-all f out n i ws h k =
     rw (m, take-all i out h) (append-nil out)
 
 -- the value of a number up to a limit
-value-within : (limit : ℕ) (n : Number) → upTo limit n ≡ true → valueOf n ≤ limit
+pub value-within : (limit : ℕ) (n : Number) → upTo limit n ≡ true → valueOf n ≤ limit
 value-within limit (Value v) e = leb-true v limit e
 value-within limit Not e = absurd (let z : _≡_ {A = ℕ} 0 1 = cc in omega arith)
 
-both-true : (a b : Bool) → (a && b) ≡ true → (a ≡ true) × (b ≡ true)
+pub both-true : (a b : Bool) → (a && b) ≡ true → (a ≡ true) × (b ≡ true)
 both-true true b e = (refl, e)
 both-true false b e = absurd (let z : _≡_ {A = ℕ} 0 1 = cc in omega arith)
 
@@ -235,68 +243,46 @@ fitting-within (l ∷ ls) ws (suc k) e h =
 -- ---- lengths
 
 -- by a test, one command or another
-by-test : (t : Bool) (a b : Command) → (t ≡ true → lengthOf a ≤ 64) → lengthOf b ≤ 64 → lengthOf (cond t a b) ≤ 64
+by-test : (t : Bool) (a b : Command) → (t ≡ true → Within a) → Within b → Within (cond t a b)
 by-test true a b h k = h refl
 by-test false a b h k = k
 
--- a call that lends no bytes, or `error`
-no-bytes : (t : Bool) (a : Command) → lengthOf a ≡ 0 → lengthOf (cond t a Command.Error) ≤ 64
-no-bytes t a e = by-test t a Command.Error (λ _. omega arith) (omega arith)
+-- a call by a test, else `error`
+or-error : (t : Bool) (a : Command) → (t ≡ true → Within a) → Within (cond t a Command.Error)
+or-error t a h = by-test t a Command.Error h tt
 
-tick-within : (ws : List (List ℕ)) → lengthOf (tickCall ws) ≤ 64
-unfolding tickCall
-tick-within ws =
-    no-bytes (fitting (1 ∷ 4294967295 ∷ 255 ∷ 4294967295 ∷ 255 ∷ []) ws)
-    (Command.Tick (eqb (valueAt 5 ws 0) 1) (valueAt 5 ws 1) (valueAt 5 ws 2) (valueAt 5 ws 3) (valueAt 5 ws 4)) refl
+bytes-within : (most : ℕ) (ws : List (List ℕ)) → areBytes most ws ≡ true → length ws ≤ most
+bytes-within most ws e = leb-true (length ws) most (both-true (leb (length ws) most) (fitting (replicate (length ws) 255) ws) e .0)
 
-telegram-within : (ws : List (List ℕ)) → lengthOf (telegramCall ws) ≤ 64
-unfolding telegramCall
-telegram-within ws =
-    let n = length ws in
-    by-test (leb 1 n && leb n 65 && fitting (replicate n 255) ws) (Command.Telegram (valueAt n ws 0) (n - 1)) Command.Error
-    (λ e. let h = leb-true n 65 (both-true (leb 1 n) (leb n 65) (both-true (leb 1 n && leb n 65) (fitting (replicate n 255) ws) e .0) .1) in omega arith)
-    (omega arith)
+call-within : (name : Name) (ws : List (List ℕ)) → Within (callOf name ws)
+unfolding callOf tickCall telegramCall writeCall readCall imageCall partCall loadCall
+call-within Name.Factory ws = or-error (isEmpty ws) Command.Factory (λ _. tt)
+call-within Name.Tick ws =
+    or-error (fitting (1 ∷ 4294967295 ∷ 255 ∷ 4294967295 ∷ 255 ∷ []) ws)
+    (Command.Tick (eqb (valueAt 5 ws 0) 1) (valueAt 5 ws 1) (valueAt 5 ws 2) (valueAt 5 ws 3) (valueAt 5 ws 4)) (λ _. tt)
+call-within Name.Telegram ws =
+    or-error (upTo 255 (numberOf (firstOf ws)) && areBytes 64 (restOf ws)) (Command.Telegram (wordValue (firstOf ws)) (length (restOf ws)))
+    (λ e. bytes-within 64 (restOf ws) (both-true (upTo 255 (numberOf (firstOf ws))) (areBytes 64 (restOf ws)) e .1))
+call-within Name.Write ws =
+    or-error (fitting (255 ∷ 255 ∷ 4294967295 ∷ 4294967295 ∷ []) ws)
+    (Command.Write (valueAt 4 ws 0) (valueAt 4 ws 1) (valueAt 4 ws 2) (valueAt 4 ws 3)) (λ _. tt)
+call-within Name.Warm ws = or-error (isEmpty ws) Command.Warm (λ _. tt)
+call-within Name.Read ws = or-error (fitting (255 ∷ 255 ∷ []) ws) (Command.Read (valueAt 2 ws 0) (valueAt 2 ws 1)) (λ _. tt)
+call-within Name.Image ws =
+    or-error (fitting (64 ∷ []) ws) (Command.Image (valueAt 1 ws 0)) (λ e. fitting-within (64 ∷ []) ws 0 e (omega arith))
+call-within Name.Part ws =
+    or-error (fitting (255 ∷ 64 ∷ []) ws) (Command.Part (valueAt 2 ws 0) (valueAt 2 ws 1)) (λ e. fitting-within (255 ∷ 64 ∷ []) ws 1 e (omega arith))
+call-within Name.Total ws = or-error (isEmpty ws) Command.Total (λ _. tt)
+call-within Name.Load ws = or-error (areBytes 256 ws) (Command.Load (length ws)) (bytes-within 256 ws)
+call-within Name.Other ws = tt
 
-write-within : (ws : List (List ℕ)) → lengthOf (writeCall ws) ≤ 64
-unfolding writeCall
-write-within ws =
-    no-bytes (fitting (255 ∷ 255 ∷ 4294967295 ∷ 4294967295 ∷ []) ws) (Command.Write (valueAt 4 ws 0) (valueAt 4 ws 1) (valueAt 4 ws 2) (valueAt 4 ws 3)) refl
-
-read-within : (ws : List (List ℕ)) → lengthOf (readCall ws) ≤ 64
-unfolding readCall
-read-within ws = no-bytes (fitting (255 ∷ 255 ∷ []) ws) (Command.Read (valueAt 2 ws 0) (valueAt 2 ws 1)) refl
-
-image-within : (ws : List (List ℕ)) → lengthOf (imageCall ws) ≤ 64
-unfolding imageCall
-image-within ws =
-    by-test (fitting (64 ∷ []) ws) (Command.Image (valueAt 1 ws 0)) Command.Error (λ e. fitting-within (64 ∷ []) ws 0 e (omega arith)) (omega arith)
-
-part-within : (ws : List (List ℕ)) → lengthOf (partCall ws) ≤ 64
-unfolding partCall
-part-within ws =
-    by-test (fitting (255 ∷ 64 ∷ []) ws) (Command.Part (valueAt 2 ws 0) (valueAt 2 ws 1)) Command.Error
-    (λ e. fitting-within (255 ∷ 64 ∷ []) ws 1 e (omega arith)) (omega arith)
-
-call-within : (name : Name) (ws : List (List ℕ)) → lengthOf (callOf name ws) ≤ 64
-unfolding callOf
-call-within Name.Factory ws = no-bytes (isEmpty ws) Command.Factory refl
-call-within Name.Tick ws = tick-within ws
-call-within Name.Telegram ws = telegram-within ws
-call-within Name.Write ws = write-within ws
-call-within Name.Warm ws = no-bytes (isEmpty ws) Command.Warm refl
-call-within Name.Read ws = read-within ws
-call-within Name.Image ws = image-within ws
-call-within Name.Part ws = part-within ws
-call-within Name.Total ws = no-bytes (isEmpty ws) Command.Total refl
-call-within Name.Other ws = omega arith
-
--- "A length: 0 to 64.": so too the number of a telegram's bytes
-pub length-within : (line : List ℕ) → lengthOf (commandOf line) ≤ 64
+-- "A length: 0 to 64."; "from none to 64", "none to 256 bytes"
+pub length-within : (line : List ℕ) → Within (commandOf line)
 unfolding commandOf
 length-within line =
     let ws = wordsOf line in
     let d = callOf (nameOf (firstOf ws)) (restOf ws) in
     let c = cond (eqb (getD line 0 0) 35) Command.Nothing d in
-    by-test (ltb 4096 (length line)) Command.Error (cond (isEmpty ws) Command.Nothing c) (λ _. omega arith)
-    (by-test (isEmpty ws) Command.Nothing c (λ _. omega arith)
-    (by-test (eqb (getD line 0 0) 35) Command.Nothing d (λ _. omega arith) (call-within (nameOf (firstOf ws)) (restOf ws))))
+    by-test (ltb 4096 (length line)) Command.Error (cond (isEmpty ws) Command.Nothing c) (λ _. tt)
+    (by-test (isEmpty ws) Command.Nothing c (λ _. tt)
+    (by-test (eqb (getD line 0 0) 35) Command.Nothing d (λ _. tt) (call-within (nameOf (firstOf ws)) (restOf ws))))

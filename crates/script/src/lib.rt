@@ -6,8 +6,8 @@ pub use answers::put_answer;
 ghost use mathlib.Core.Path.{_≡_};
 ghost use Prim.Native.Nat.{_≤_};
 ghost use lib.ListN.{length, drop};
-ghost use Rattle.script.specs.Words.{wordsOf, restOf, bytesOf};
-ghost use Rattle.script.specs.Command.{nameOf, aloneCall, tickCall, telegramCall, writeCall, readCall, imageCall, partCall, callOf, commandOf};
+ghost use Rattle.script.specs.Words.{wordsOf, bytesOf};
+ghost use Rattle.script.specs.Command.{nameOf, aloneCall, tickCall, telegramCall, writeCall, readCall, imageCall, partCall, loadCall, callOf, commandOf};
 
 // What a line asks for.
 pub enum Command {
@@ -23,7 +23,7 @@ pub enum Command {
         tot_bits: u32,
         tot_status: u8,
     },
-    // `telegram_bytes` gives the telegram's bytes, of which there are `length`.
+    // `bytes_after` two words gives the telegram's bytes, of which there are `length`.
     Telegram {
         input: u8,
         length: usize,
@@ -47,6 +47,10 @@ pub enum Command {
         length: usize,
     },
     Total,
+    // `bytes_after` one word gives the table's bytes, of which there are `length`.
+    Load {
+        length: usize,
+    },
 }
 
 // What a call is answered. The bytes of `Bytes` are lent beside it.
@@ -74,6 +78,7 @@ pub enum Name {
     Image,
     Part,
     Total,
+    Load,
     Other,
 }
 
@@ -108,6 +113,9 @@ fn name_of(word: &[u8]) -> Name
     }
     if words::same(word, b"total") {
         return Name::Total;
+    }
+    if words::same(word, b"load") {
+        return Name::Load;
     }
     Name::Other
 }
@@ -147,20 +155,16 @@ fn telegram(line: &[u8], at: usize) -> Command
     requires { ⌜ at ≤ length (now line) ⌝ }
     ensures { λ r. ⌜ r ≡ telegramCall (wordsOf (drop at (now (line .entry)))) ⌝ }
 {
-    let n = words::count(line, at);
-    if n == 0 {
-        return Command::Error;
-    }
-    if n > 65 {
-        return Command::Error;
-    }
-    let limits = [255u64; 65];
-    let mut v = [0u64; 65];
-    let good = words::numbers(line, at, &limits[..n], &mut v[..n]);
+    let w = words::next_word(line, at);
+    let from = w.from;
+    let to = w.to;
+    let input = words::number(line, from, to);
+    let n = words::count(line, to);
+    let good = words::up_to(255, input) & (n <= 64) & words::are_bytes(line, to, n);
     if good {
         return Command::Telegram {
-            input: v[0] as u8,
-            length: n - 1,
+            input: words::value(input) as u8,
+            length: n,
         };
     }
     Command::Error
@@ -227,6 +231,18 @@ fn part(line: &[u8], at: usize) -> Command
     Command::Error
 }
 
+fn load(line: &[u8], at: usize) -> Command
+    requires { ⌜ at ≤ length (now line) ⌝ }
+    ensures { λ r. ⌜ r ≡ loadCall (wordsOf (drop at (now (line .entry)))) ⌝ }
+{
+    let n = words::count(line, at);
+    let good = (n <= 256) & words::are_bytes(line, at, n);
+    if good {
+        return Command::Load { length: n };
+    }
+    Command::Error
+}
+
 // The call of a name, whose arguments stand from `at` on.
 fn call(name: Name, line: &[u8], at: usize) -> Command
     requires { ⌜ at ≤ length (now line) ⌝ }
@@ -242,6 +258,7 @@ fn call(name: Name, line: &[u8], at: usize) -> Command
         Name::Image => image(line, at),
         Name::Part => part(line, at),
         Name::Total => alone(line, at, Command::Total),
+        Name::Load => load(line, at),
         Name::Other => Command::Error,
     }
 }
@@ -268,11 +285,10 @@ pub fn parse(line: &[u8]) -> Command
     call(name, line, to)
 }
 
-// The bytes of a `telegram` line: the numbers of the words after the second, one for each byte of out.
-pub fn telegram_bytes(line: &[u8], out: &mut [u8])
-    ensures { λ _. ⌜ now (out .exit) ≡ bytesOf (length (now (out .entry))) (restOf (restOf (wordsOf (now (line .entry))))) ⌝ }
+// The bytes of a line after its first `count` words: the numbers of the words that follow, one for each byte of out.
+pub fn bytes_after(line: &[u8], count: usize, out: &mut [u8])
+    ensures { λ _. ⌜ now (out .exit) ≡ bytesOf (length (now (out .entry))) (drop count (wordsOf (now (line .entry)))) ⌝ }
 {
-    let name = words::next_word(line, 0);
-    let input = words::next_word(line, name.to);
-    words::bytes(line, input.to, out);
+    let at = words::after(line, count);
+    words::bytes(line, at, out);
 }

@@ -2,7 +2,7 @@
 ghost use mathlib.Core.Path.{_≡_};
 ghost use mathlib.Core.Bool.{true, false};
 ghost use Prim.Native.Nat.{_≤_, _<_};
-ghost use lib.ListN.{length, drop, getD};
+ghost use lib.ListN.{length, drop, getD, replicate};
 ghost use lib.Dec.{eqb};
 ghost use Rattle.script.specs.Words.{some, wordsOf, isEmpty, between, NextWord, numberOf, upTo, valueOf, fitting, valuesOf, byteOf, bytesOf, sameBytes};
 use text::Number;
@@ -79,6 +79,20 @@ pub fn count(line: &[u8], at: usize) -> usize
     n
 }
 
+// The place after the line's first `count` words.
+pub fn after(line: &[u8], count: usize) -> usize
+    ensures { λ r. ⌜ (r ≤ length (now (line .entry))) × (wordsOf (drop r (now (line .entry))) ≡ drop count (wordsOf (now (line .entry)))) ⌝ }
+{
+    let mut next = 0;
+    let mut i = 0;
+    while i < count {
+        let w = next_word(line, next);
+        next = w.to;
+        i += 1;
+    }
+    next
+}
+
 // Whether two byte strings are the same.
 pub fn same(a: &[u8], b: &[u8]) -> bool
     ensures { λ r. ⌜ r ≡ sameBytes (now (a .entry)) (now (b .entry)) ⌝ }
@@ -96,7 +110,7 @@ pub fn same(a: &[u8], b: &[u8]) -> bool
     true
 }
 
-fn up_to(limit: u64, n: Number) -> bool
+pub fn up_to(limit: u64, n: Number) -> bool
     ensures { λ r. ⌜ r ≡ upTo limit n ⌝ }
 {
     match n {
@@ -105,7 +119,7 @@ fn up_to(limit: u64, n: Number) -> bool
     }
 }
 
-fn value(n: Number) -> u64
+pub fn value(n: Number) -> u64
     ensures { λ r. ⌜ r ≡ valueOf n ⌝ }
 {
     match n {
@@ -115,7 +129,7 @@ fn value(n: Number) -> u64
 }
 
 // The number that the part of a line stands for.
-fn number(line: &[u8], from: usize, to: usize) -> Number
+pub fn number(line: &[u8], from: usize, to: usize) -> Number
     requires { ⌜ (from ≤ to) × (to ≤ length (now line)) ⌝ }
     ensures { λ r. ⌜ r ≡ numberOf (between (now (line .entry)) from to) ⌝ }
 {
@@ -143,6 +157,26 @@ pub fn numbers(line: &[u8], at: usize, limits: &[u64], out: &mut [u64]) -> bool
     }
     let end = is_end(line, next);
     good & end
+}
+
+// Whether `count` words stand from `at` on, each a number up to 255.
+pub fn are_bytes(line: &[u8], at: usize, count: usize) -> bool
+    requires { ⌜ at ≤ length (now line) ⌝ }
+    ensures { λ r. ⌜ r ≡ fitting (replicate count 255) (wordsOf (drop at (now (line .entry)))) ⌝ }
+{
+    let mut all = true;
+    let mut next = at;
+    let mut i = 0;
+    while i < count {
+        let w = next_word(line, next);
+        let n = number(line, w.from, w.to);
+        let fits = up_to(255, n);
+        all = all & fits;
+        next = w.to;
+        i += 1;
+    }
+    let end = is_end(line, next);
+    all & end
 }
 
 // The lowest byte of a number.

@@ -1,4 +1,4 @@
-// Vectors over `wire`, a line each. The file `stdout` has what document 01 says of them, worked out apart from this code.
+// Vectors over `wire`, a line each. The file `stdout` has what documents 01 and 02 say of them, worked out apart from this code.
 // It would show a status byte cut at the wrong bits, a byte order turned round, a NaN's or a zero's bits changed on the
 // way, a byte written outside the five or the fifteen, a part of the wrong block, and a refusal under a wrong number.
 use libc::STDOUT_FILENO;
@@ -299,6 +299,16 @@ fn refusals() {
         &mut line,
         at,
         wire::answer_number(Answer::Refused(Refusal::NoSuchInput)) as u64,
+    );
+    at = put_number(
+        &mut line,
+        at,
+        wire::answer_number(Answer::Refused(Refusal::NotWholePairs)) as u64,
+    );
+    at = put_number(
+        &mut line,
+        at,
+        wire::answer_number(Answer::Refused(Refusal::NotRising)) as u64,
     );
     show(&mut line, at);
 }

@@ -26,7 +26,11 @@ returns-4 c = rw (c .before .telegram .ensures, c .before .before .bytes-at .ens
 
 returns-5 : tie.Need-returns-5
 unfolding after
-returns-5 c = rw (c .warm-start2 .ensures, c .before .enum-told2 .given .1)
+returns-5 c = rw (c .before .load .ensures, c .before .before .bytes-at2 .ensures, c .before .before .before .before .step4 .given .1)
+
+returns-6 : tie.Need-returns-6
+unfolding after
+returns-6 c = rw (c .warm-start2 .ensures, c .before .enum-told2 .given .1)
 
 pub made-spec : {M : Type 1} → statement M
 made-spec =
@@ -43,9 +47,14 @@ made-spec =
     (λ c κs. search needs)
     (λ c κs. search needs)
     (λ c. search needs)
+    (λ c. search needs)
+    (λ c κs. search needs)
+    (λ c κs. search needs)
+    (λ c. search needs)
     (λ c κs. search needs)
     returns
     returns-2
     returns-3
     returns-4
-    returns-5)
+    returns-5
+    returns-6)

@@ -23,7 +23,11 @@ returns-4 c = rw (c .telegram-at .ensures, ← c .before .before .before .before
 
 returns-5 : tie.Need-returns-5
 unfolding stepAt
-returns-5 c = rw (c .malformed .ensures, ← c .before .before .before .before .before .byte-at .ensures, c .before .before .before .before .if1 .left, c .before .before .before .if2 .left, c .before .before .if3 .left, c .before .if4 .left)
+returns-5 c = rw (c .load-at .ensures, ← c .before .before .before .before .before .before .byte-at .ensures, c .before .before .before .before .before .if1 .left, c .before .before .before .before .if2 .left, c .before .before .before .if3 .left, c .before .before .if4 .left, c .before .if5 .taken)
+
+returns-6 : tie.Need-returns-6
+unfolding stepAt
+returns-6 c = rw (c .malformed .ensures, ← c .before .before .before .before .before .before .byte-at .ensures, c .before .before .before .before .before .if1 .left, c .before .before .before .before .if2 .left, c .before .before .before .if3 .left, c .before .before .if4 .left, c .before .if5 .left)
 
 pub step-at-spec : {M : Type 1} → statement M
 step-at-spec =
@@ -39,4 +43,6 @@ step-at-spec =
     (λ c κs. search needs)
     returns-4
     (λ c κs. search needs)
-    returns-5)
+    returns-5
+    (λ c κs. search needs)
+    returns-6)

@@ -1,25 +1,20 @@
+-- `linearisation::is_allowed` meets its contract: the loop's invariant: what was found good so far, with the rest following the last x, is all; the measure is what is left of the pairs.
+-- Assumes nothing.
 use Prim.Native.Nat.{_-_, _≤_}
 use mathlib.Core.Path.{_≡_, sym, ap, _∙_}
 use mathlib.Core.Bool.{_&&_}
+use mathlib.Core.List.{List, []}
 use native.Mathlib.Omega.{arith}
-use borrow.Author.Needs.{needs}
 use native.Mathlib.Numerals.{add-one}
-use lib.Ieee.{nan, ofBits, div, neg}
+use lib.Ieee.{ofBits, div, neg}
 use lib.ListN.{length, take, drop, length-take, drop-of-length-le}
 use lib.Seq.{getD-take}
-use mathlib.Core.List.{List, []}
+use borrow.Author.Needs.{needs}
 use Rattle.linearisation.specs.declared.Point.{Point}
-use Rattle.linearisation.specs.Laws.{and-true, follow-first, follow-more}
+use Rattle.linearisation.specs.Laws.{unwritten, and-true, follow-first, follow-more}
 use Rattle.linearisation.specs.Table.{follow, allowed}
 use Rattle.linearisation.proofs.is_allowed.Statement.{statement}
 use Rattle.linearisation.proofs.is_allowed.Tie as tie
-use Rattle.linearisation.proofs.is_allowed.Reads as reads
-use Rattle.linearisation.proofs.is_allowed.Lts as lts
-use Rattle.numbers.proofs.floats.is_finite.Reads as is-finite-reads
-
--- what an array holds where nothing was written
-abbrev unwritten : Point
-unwritten = record { x = nan; y = nan }
 
 abbrev Inv-loop : tie.InvT-loop
 Inv-loop n points good₀ before₀ i₀ good before i = (i ≤ n) × ((good && follow before (drop i (take n points))) ≡ allowed (take n points))
@@ -27,36 +22,22 @@ Inv-loop n points good₀ before₀ i₀ good before i = (i ≤ n) × ((good && 
 abbrev μ-loop : tie.MeasureT-loop
 μ-loop n points good₀ before₀ i₀ good before i = n - i
 
--- src/lib.rt:93:5
 loop-holds : tie.Need-loop-holds Inv-loop μ-loop
 unfolding ofBits div neg
 loop-holds c = (omega arith, follow-first (take (c .args .n) (c .args .t1)))
 
--- src/lib.rt:94:17
 mul-p : tie.Need-mul-p Inv-loop μ-loop
 mul-p c = omega arith
 
--- src/lib.rt:94:17
 array-copy-out-p : tie.Need-array-copy-out-p Inv-loop μ-loop
 array-copy-out-p c = omega arith
 
--- src/lib.rt:95:13
-is-finite-requires : tie.Need-is-finite-requires Inv-loop μ-loop
-is-finite-requires c κs = search needs
-
--- src/lib.rt:96:13
-is-finite-requires-2 : tie.Need-is-finite-requires-2 Inv-loop μ-loop
-is-finite-requires-2 c κs = search needs
-
--- src/lib.rt:99:9
 add-i : tie.Need-add-i Inv-loop μ-loop
 add-i c = omega arith
 
--- src/lib.rt:93:5
 loop-less : tie.Need-loop-less Inv-loop μ-loop
 loop-less c = omega arith
 
--- src/lib.rt:93:5
 loop-again : tie.Need-loop-again Inv-loop μ-loop
 loop-again c =
     let l = c .before .before .before .before .before .loop in
@@ -69,7 +50,6 @@ loop-again c =
           (follow-more (l .good) (l .before) ps (l .i) unwritten (omega (arith, full, length-take (a .n) (a .t1))) ∙ l .inv .1),
     )
 
--- src/lib.rt:86:1
 returns : tie.Need-returns Inv-loop μ-loop
 unfolding follow
 returns c =
@@ -87,8 +67,8 @@ is-allowed-spec =
     loop-holds
     mul-p
     array-copy-out-p
-    is-finite-requires
-    is-finite-requires-2
+    (λ c κs. search needs)
+    (λ c κs. search needs)
     add-i
     loop-less
     loop-again

@@ -1,38 +1,25 @@
-use lib.Ieee.{nan}
-use Rattle.linearisation.specs.declared.Point.{Point}
+-- `linearisation::linearised` meets its contract: the loop's invariant: no pair from place i on lies at or below the value; so the first one that does, from the last down, is the one used.
+-- Assumes nothing.
+use Prim.Native.Nat.{ℕ, suc, _-_, _≤_}
+use mathlib.Core.Path.{_≡_, refl, sym, ap, _∙_, subst}
+use mathlib.Core.List.{List, [], _∷_, map}
+use native.Mathlib.Omega.{arith}
+use lib.ListN.{length, getD, drop}
+use borrow.Author.Needs.{needs}
 use denote.Laws.{Is}
 use denote.Struct.Laws as LL
 use Rattle.linearisation.specs.declared.Table.{Table}
 use Rattle.linearisation.proofs.Table as T
 use Rattle.linearisation.proofs.Table.Laws as T′
-use Rattle.linearisation.specs.Laws.{none-yet, found-last, found-inner, passed, no-pairs, before-first}
-use Prim.Native.Nat.{ℕ, suc, _-_, _≤_}
-use mathlib.Core.Path.{_≡_, refl, sym, ap, _∙_, subst}
-use mathlib.Core.Bool.{Bool, true, false, not}
-use mathlib.Core.List.{List, [], _∷_, map}
-use native.Mathlib.Omega.{arith}
-use borrow.Author.Needs.{needs}
-use lib.ListN.{length, getD, drop}
+use Rattle.linearisation.specs.Laws.{turned, unwritten, none-yet, found-last, found-inner, passed, no-pairs, before-first}
 use Rattle.linearisation.specs.Table.{pairsOf}
 use Rattle.linearisation.specs.Value.{usedOn, between, valueAt}
 use Rattle.linearisation.proofs.linearised.Statement.{statement}
 use Rattle.linearisation.proofs.linearised.Tie as tie
-use Rattle.linearisation.proofs.linearised.Reads as reads
-use Rattle.linearisation.proofs.linearised.Lts as lts
-use Rattle.linearisation.proofs.on_line.Reads as on-line-reads
-use Rattle.numbers.proofs.floats.is_finite.Reads as is-finite-reads
 
 mapped : {A B : Type 0} (f : A → B) (l : List A) → length (map f l) ≡ length l
 mapped f [] = refl
 mapped f (a ∷ l) = ap suc (mapped f l)
-
-turned : (b : Bool) → not b ≡ false → b ≡ true
-turned true e = refl
-turned false e = sym e
-
--- what an array holds where nothing was written
-abbrev unwritten : Point
-unwritten = record { x = nan; y = nan }
 
 -- a table has 21 places
 full : (t : Table) → Is T.the-row t (LL.val T.the-type T′.the-laws t ∷ []) → length (t .points) ≡ 21
@@ -44,19 +31,10 @@ Inv-loop x table finite n i₀ i = (i ≤ n) × (usedOn x (drop i (pairsOf table
 abbrev μ-loop : tie.MeasureT-loop
 μ-loop x table finite n i₀ i = i
 
--- src/lib.rt:151:9
-is-finite-requires : tie.Need-is-finite-requires Inv-loop μ-loop
-is-finite-requires c κs = search needs
-
--- src/lib.rt:152:9
 returns : tie.Need-returns Inv-loop μ-loop
 unfolding valueAt
 returns c = rw (← c .before .is-finite .ensures, c .if1 .taken)
 
-places-requires : tie.Need-places-requires Inv-loop μ-loop
-places-requires c κs = search needs
-
--- src/lib.rt:159:5
 loop-holds : tie.Need-loop-holds Inv-loop μ-loop
 loop-holds c =
     let s = c .before .before .before in
@@ -67,15 +45,12 @@ loop-holds c =
 sub-p : tie.Need-sub-p Inv-loop μ-loop
 sub-p c = omega arith
 
--- src/lib.rt:160:17
 mul-p : tie.Need-mul-p Inv-loop μ-loop
 mul-p c = omega arith
 
--- src/lib.rt:160:17
 element-copy-out-p : tie.Need-element-copy-out-p Inv-loop μ-loop
 element-copy-out-p c = omega arith
 
--- src/lib.rt:163:17
 returns-2 : tie.Need-returns-2 Inv-loop μ-loop
 returns-2 c =
     let s = c .before .before .before .before .before .before .before .before .before in
@@ -85,19 +60,12 @@ returns-2 c =
     let e : suc (l .i - 1) ≡ l .i = omega arith in
     found-last (t .points) (t .count) (full t (s .good .0)) unwritten (s .args .x) f (l .i - 1) (e ∙ c .if3 .taken ∙ c .before .before .before .before .before .before .places .ensures) (rw e (l .inv .1)) (c .before .if2 .taken)
 
--- src/lib.rt:165:21
 mul-q : tie.Need-mul-q Inv-loop μ-loop
 mul-q c = omega arith
 
--- src/lib.rt:165:21
 element-copy-out-q : tie.Need-element-copy-out-q Inv-loop μ-loop
 element-copy-out-q c = omega arith
 
--- src/lib.rt:166:13
-on-line-requires : tie.Need-on-line-requires Inv-loop μ-loop
-on-line-requires c κs = search needs
-
--- src/lib.rt:166:13
 returns-3 : tie.Need-returns-3 Inv-loop μ-loop
 returns-3 c =
     let s = c .before .before .before .before .before .before .before .before .before .before .before in
@@ -108,15 +76,12 @@ returns-3 c =
     c .on-line .ensures ∙ ap (λ (k : ℕ). between (getD (t .points) (l .i - 1) unwritten) (getD (t .points) k unwritten) (s .args .x)) (sym e)
     ∙ found-inner (t .points) (t .count) (full t (s .good .0)) unwritten (s .args .x) f (l .i - 1) (omega (arith, c .before .before .before .before .before .before .before .before .places .ensures)) (rw e (l .inv .1)) (c .before .before .before .if2 .taken)
 
--- src/lib.rt:168:9
 sub-i : tie.Need-sub-i Inv-loop μ-loop
 sub-i c = omega arith
 
--- src/lib.rt:159:5
 loop-less : tie.Need-loop-less Inv-loop μ-loop
 loop-less c = omega arith
 
--- src/lib.rt:159:5
 loop-again : tie.Need-loop-again Inv-loop μ-loop
 loop-again c =
     let s = c .before .before .before .before .before .before .before .before in
@@ -126,7 +91,6 @@ loop-again c =
     let e : suc (l .i - 1) ≡ l .i = omega arith in
     (omega arith, passed (t .points) (t .count) (full t (s .good .0)) unwritten (s .args .x) f (l .i - 1) (omega (arith, c .before .before .before .before .before .places .ensures)) (rw e (l .inv .1)) (c .if2 .left))
 
--- src/lib.rt:171:9
 returns-4 : tie.Need-returns-4 Inv-loop μ-loop
 returns-4 c =
     let s = c .before .before .before .before .before .before in
@@ -134,11 +98,9 @@ returns-4 c =
     let f = sym (c .before .before .before .before .before .is-finite .ensures) ∙ turned (c .before .before .before .before .before .is-finite .result) (c .before .before .before .before .if1 .left) in
     no-pairs (t .points) (t .count) (full t (s .good .0)) unwritten (s .args .x) f (sym (c .before .before .before .places .ensures) ∙ c .if4 .taken)
 
--- src/lib.rt:173:17
 element-copy-out-first : tie.Need-element-copy-out-first Inv-loop μ-loop
 element-copy-out-first c = omega arith
 
--- src/lib.rt:147:1
 returns-5 : tie.Need-returns-5 Inv-loop μ-loop
 returns-5 c =
     let s = c .before .before .before .before .before .before .before in
@@ -155,9 +117,9 @@ linearised-spec =
     (tie.spec
     Inv-loop
     μ-loop
-    is-finite-requires
+    (λ c κs. search needs)
     returns
-    places-requires
+    (λ c κs. search needs)
     loop-holds
     sub-p
     mul-p
@@ -165,7 +127,7 @@ linearised-spec =
     returns-2
     mul-q
     element-copy-out-q
-    on-line-requires
+    (λ c κs. search needs)
     returns-3
     sub-i
     loop-less

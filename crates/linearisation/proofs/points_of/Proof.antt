@@ -1,18 +1,16 @@
+-- `linearisation::points_of` meets its contract: the loop's invariant: the first i pairs are in their places, and zeros after them; the measure is what is left of the pairs.
+-- Assumes nothing.
 use Prim.Native.Nat.{_-_, _≤_}
 use mathlib.Core.Path.{_≡_}
 use native.Mathlib.Omega.{arith}
-use borrow.Author.Needs.{needs}
-use lib.ListN.{take}
 use native.Mathlib.Numerals.{add-one}
+use lib.ListN.{take}
+use borrow.Author.Needs.{needs}
 use denote.Ref.{now}
 use Rattle.linearisation.specs.Table.{pairsIn, padded}
 use Rattle.linearisation.specs.Laws.{padded-more, many}
 use Rattle.linearisation.proofs.points_of.Statement.{statement}
 use Rattle.linearisation.proofs.points_of.Tie as tie
-use Rattle.linearisation.proofs.points_of.Reads as reads
-use Rattle.linearisation.proofs.points_of.Lts as lts
-use Rattle.linearisation.proofs.point_at.Reads as point-at-reads
-use Rattle.linearisation.proofs.zero_point.Reads as zero-point-reads
 
 abbrev Inv-loop : tie.InvT-loop
 Inv-loop bytes n points₀ i₀ points i = (i ≤ n) × (points ≡ padded (take i (pairsIn bytes)))
@@ -20,42 +18,30 @@ Inv-loop bytes n points₀ i₀ points i = (i ≤ n) × (points ≡ padded (take
 abbrev μ-loop : tie.MeasureT-loop
 μ-loop bytes n points₀ i₀ points i = n - i
 
--- src/lib.rt:74:9
-zero-point-requires : tie.Need-zero-point-requires Inv-loop μ-loop
-zero-point-requires c κs = search needs
-
--- src/lib.rt:77:5
 loop-holds : tie.Need-loop-holds Inv-loop μ-loop
 loop-holds c = (omega arith, rw (c .zero-point .ensures))
 
--- src/lib.rt:78:13
 point-at-requires : tie.Need-point-at-requires Inv-loop μ-loop
 point-at-requires c κs = omega arith
 
--- src/lib.rt:79:9
 mul-points : tie.Need-mul-points Inv-loop μ-loop
 mul-points c = omega arith
 
--- src/lib.rt:79:9
 array-set-from-points : tie.Need-array-set-from-points Inv-loop μ-loop
 array-set-from-points c = omega arith
 
--- src/lib.rt:80:9
 add-i : tie.Need-add-i Inv-loop μ-loop
 add-i c = omega arith
 
--- src/lib.rt:77:5
 loop-less : tie.Need-loop-less Inv-loop μ-loop
 loop-less c = omega arith
 
--- src/lib.rt:77:5
 loop-again : tie.Need-loop-again Inv-loop μ-loop
 loop-again c =
     let l = c .before .before .loop in
     let s = now (c .before .before .before .before .before .args .bytes) in
     (omega arith, rw (l .inv .1, add-one (l .i)) (padded-more (pairsIn s) (l .i) (c .point-at .result) (omega (arith, many s)) (omega arith) (c .point-at .ensures)))
 
--- src/lib.rt:70:1
 returns : tie.Need-returns Inv-loop μ-loop
 returns c =
     let l = c .before .loop in
@@ -68,7 +54,7 @@ points-of-spec =
     (tie.spec
     Inv-loop
     μ-loop
-    zero-point-requires
+    (λ c κs. search needs)
     loop-holds
     point-at-requires
     mul-points

@@ -45,13 +45,19 @@ returns-9 c = rw (c .alone3 .ensures, c .before .enum-told9 .given .1)
 
 returns-10 : tie.Need-returns-10
 unfolding callOf
-returns-10 c = rw (c .enum-told10 .given .1)
+returns-10 c = rw (c .load .ensures, c .before .enum-told10 .given .1)
+
+returns-11 : tie.Need-returns-11
+unfolding callOf
+returns-11 c = rw (c .enum-told11 .given .1)
 
 pub call-spec : {M : Type 1} → statement M
 call-spec =
     tie.close
     (tie.spec
     enum-told
+    (λ c κs. search needs)
+    (λ c. search needs)
     (λ c κs. search needs)
     (λ c. search needs)
     (λ c κs. search needs)
@@ -79,4 +85,5 @@ call-spec =
     returns-7
     returns-8
     returns-9
-    returns-10)
+    returns-10
+    returns-11)

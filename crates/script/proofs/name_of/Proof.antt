@@ -88,7 +88,8 @@ returns-9 c =
 returns-10 : tie.Need-returns-10
 unfolding nameOf
 returns-10 c =
-    let c8 = c .before .before .before in
+    let c9 = c .before .before .before in
+    let c8 = c9 .before .before .before in
     let c7 = c8 .before .before .before in
     let c6 = c7 .before .before .before in
     let c5 = c6 .before .before .before in
@@ -96,7 +97,21 @@ returns-10 c =
     let c3 = c4 .before .before .before in
     let c2 = c3 .before .before .before in
     let c1 = c2 .before .before .before in
-    rw (told (c1 .before .same .ensures) (c1 .if1 .left), told (c2 .before .same2 .ensures) (c2 .if2 .left), told (c3 .before .same3 .ensures) (c3 .if3 .left), told (c4 .before .same4 .ensures) (c4 .if4 .left), told (c5 .before .same5 .ensures) (c5 .if5 .left), told (c6 .before .same6 .ensures) (c6 .if6 .left), told (c7 .before .same7 .ensures) (c7 .if7 .left), told (c8 .before .same8 .ensures) (c8 .if8 .left), told (c .before .same9 .ensures) (c .if9 .left))
+    rw (told (c1 .before .same .ensures) (c1 .if1 .left), told (c2 .before .same2 .ensures) (c2 .if2 .left), told (c3 .before .same3 .ensures) (c3 .if3 .left), told (c4 .before .same4 .ensures) (c4 .if4 .left), told (c5 .before .same5 .ensures) (c5 .if5 .left), told (c6 .before .same6 .ensures) (c6 .if6 .left), told (c7 .before .same7 .ensures) (c7 .if7 .left), told (c8 .before .same8 .ensures) (c8 .if8 .left), told (c9 .before .same9 .ensures) (c9 .if9 .left), told (c .before .same10 .ensures) (c .if10 .taken))
+
+returns-11 : tie.Need-returns-11
+unfolding nameOf
+returns-11 c =
+    let c9 = c .before .before .before in
+    let c8 = c9 .before .before .before in
+    let c7 = c8 .before .before .before in
+    let c6 = c7 .before .before .before in
+    let c5 = c6 .before .before .before in
+    let c4 = c5 .before .before .before in
+    let c3 = c4 .before .before .before in
+    let c2 = c3 .before .before .before in
+    let c1 = c2 .before .before .before in
+    rw (told (c1 .before .same .ensures) (c1 .if1 .left), told (c2 .before .same2 .ensures) (c2 .if2 .left), told (c3 .before .same3 .ensures) (c3 .if3 .left), told (c4 .before .same4 .ensures) (c4 .if4 .left), told (c5 .before .same5 .ensures) (c5 .if5 .left), told (c6 .before .same6 .ensures) (c6 .if6 .left), told (c7 .before .same7 .ensures) (c7 .if7 .left), told (c8 .before .same8 .ensures) (c8 .if8 .left), told (c9 .before .same9 .ensures) (c9 .if9 .left), told (c .before .same10 .ensures) (c .if10 .left))
 
 pub name-of-spec : {M : Type 1} → statement M
 name-of-spec =
@@ -129,4 +144,7 @@ name-of-spec =
     (λ c. search needs)
     (λ c κs. search needs)
     returns-9
-    returns-10)
+    (λ c. search needs)
+    (λ c κs. search needs)
+    returns-10
+    returns-11)
