@@ -2,7 +2,7 @@
 use Prim.Native.Nat.{ℕ, _+_, _/_, _%_, _<_, _≤_}
 use native.Mathlib.Omega.{arith}
 use mathlib.Core.Path.{_≡_, refl, sym, ap, _∙_, subst}
-use mathlib.Core.Bool.{Bool, true, false, not, _&&_, _||_, cond, true≢false}
+use mathlib.Core.Bool.{Bool, true, false, not, _&&_, cond, true≢false}
 use mathlib.Core.List.{List, [], _∷_}
 use mathlib.Core.Option.{Option, none, some}
 use lib.Dec.{T, eqb, leb, ltb, eqb→eq, leb→le, le→leb, ltb→lt}
@@ -27,8 +27,8 @@ use Rattle.device.specs.Stored.{revAfter}
 use Rattle.device.specs.Calls.{loadBy, loadOf}
 use Rattle.history.specs.Past.{History, _▷_, told, count, latest, carried}
 use Rattle.history.specs.Calls.{Event, loaded}
-use Rattle.history.specs.Rules.{orElse, stored, table, along, said, lowest, linear, measured, isWhole, allFinite, rising, code, refused, tabled, toLoad, isStaticWrite, stRev, actual, operator, filterValue, lastUsable, raises, clears, rateValue, total, given}
-use Rattle.history.proofs.Ruled.{keptOf, inputAt, alarmsAt, ainAt, totAt, aoAt, ainIn, totIn, aoIn, deviceOf, alarms-still, input-still}
+use Rattle.history.specs.Rules.{orElse, stored, table, along, said, lowest, linear, measured, isWhole, allFinite, rising, code, refused, tabled, toLoad, isStaticWrite, stRev, operator, total}
+use Rattle.history.proofs.Ruled.{inputAt, ainAt, totAt, aoAt, ainIn, totIn, aoIn, deviceOf, ain-left, tot-left, ao-left, input-still}
 
 -- ---- what a value becomes
 
@@ -231,23 +231,20 @@ module _ (h : History Event) (bytes : List ℕ) where
   abbrev then : History Event
   then = h ▷ loaded bytes
 
-  alarms-same : alarmsAt h ≡ alarmsAt then
-  alarms-same = sym (alarms-still h (loaded bytes) (λ a. unfold raises in refl) (λ a. unfold clears in refl))
-
   input-same : (i : ℕ) → inputAt i h ≡ inputAt i then
   input-same i = sym (input-still i (loaded bytes) refl h refl refl)
 
   ain-same : ainIn h ≡ ainIn then
-  unfolding ainIn given actual operator latest filterValue lastUsable carried
-  ain-same = λ i. record { out = given 1 h; mode = actual 1 h; filter = keptOf (filterValue h); last = keptOf (lastUsable h); operator = operator 1 h; alarms = alarms-same i }
+  unfolding ainIn operator latest
+  ain-same = ain-left h (loaded bytes) (λ A f s o. refl) (operator 1 h) refl
 
   tot-same : totIn h ≡ totIn then
-  unfolding totIn given actual operator latest total rateValue carried
-  tot-same = refl
+  unfolding totIn operator latest total carried
+  tot-same = tot-left h (loaded bytes) (λ A f s o. refl) (total h) (operator 2 h .status) refl refl
 
   ao-same : aoIn h ≡ aoIn then
-  unfolding aoIn given actual operator latest carried
-  ao-same = λ i. record { out = given 3 h; mode = actual 3 h; operator = operator 3 h; sp = input-same 0 i; «rcas_in» = input-same 1 i }
+  unfolding aoIn operator latest
+  ao-same = ao-left h (loaded bytes) (λ A f s o. refl) (operator 3 h) (inputAt 0 h) (inputAt 1 h) refl (input-same 0) (input-same 1)
 
   -- AIN's ST_REV is one up
   rev-up : (n : ℕ) → revAfter true (n % 65536) ≡ (n + 1) % 65536

@@ -37,7 +37,7 @@ use Rattle.device.specs.Stored.{scaleOf, pairOf as pairWritten, ainSettings, to
 use Rattle.device.specs.Factory.{ainBy, totBy, aoBy, factoryDevice}
 use Rattle.history.specs.Past.{History, start, _▷_, count, countSince, since, latest, told, carried}
 use Rattle.history.specs.Calls.{Event, wrote, words}
-use Rattle.history.specs.Rules.{pair, statics, outputs, among, defaults, orZeros, orElse, stored, wordsTo, never, code, float, scale, table, isStaticWrite, stRev, actual, operator, filterValue, lastUsable, Alarm, hiHi, hi, lo, loLo, stands, rateValue, total, given, came, setpoint, silence, ifs, isTick, isStart, pairOn, holds, isUsable, isIfs, isUsableOn, isIfsOn, raises, clears}
+use Rattle.history.specs.Rules.{pair, statics, outputs, among, defaults, orZeros, orElse, stored, wordsTo, never, code, float, scale, table, isStaticWrite, stRev, actual, operator, filterValue, lastUsable, Alarm, hiHi, hi, lo, loLo, stands, rateValue, total, given, came, setpoint, silence, ifs, isTick, isStart, onTick, pairOn, holds, isUsable, isIfs, isUsableOn, isIfsOn, raises, clears}
 use Rattle.history.proofs.Truth.{and-true}
 use Rattle.history.proofs.Lists.{static-same}
 
@@ -185,6 +185,57 @@ module _ (input : ℕ) (e : Event) (n : pairOn input e ≡ none) where
         silence-same : silence input (h ▷ e) ≡ silence input h
         silence-same = silent-same input h e not-usable t
 
+-- ---- an event that is no tick and no start: the states of the blocks after it, by what it makes of the operator's pair, the total and the inputs
+
+abbrev pub Still : Event → Type 1
+Still e = (A : Type 0) (f : Bool → Pair → Pair → Words → Words → A) (s o : A) → onTick f s o e ≡ o
+
+module _ (h : History Event) (e : Event) (still : Still e) where
+  given-left : (block : ℕ) → given block h ≡ given block (h ▷ e)
+  unfolding given carried
+  given-left block = sym (still _ _ _ (given block h))
+
+  actual-left : (block : ℕ) → actual block h ≡ actual block (h ▷ e)
+  unfolding actual carried
+  actual-left block = sym (still _ _ _ (actual block h))
+
+  filter-left : filterValue h ≡ filterValue (h ▷ e)
+  unfolding filterValue carried
+  filter-left = sym (still _ _ _ (filterValue h))
+
+  last-left : lastUsable h ≡ lastUsable (h ▷ e)
+  unfolding lastUsable carried
+  last-left = sym (still _ _ _ (lastUsable h))
+
+  rate-left : rateValue h ≡ rateValue (h ▷ e)
+  unfolding rateValue carried
+  rate-left = sym (still _ _ _ (rateValue h))
+
+  alarms-left : alarmsAt h ≡ alarmsAt (h ▷ e)
+  unfolding raises clears
+  alarms-left = sym (alarms-still h e (λ a. still _ _ _ false) (λ a. still _ _ _ false))
+
+  pub ain-left : (p : Pair) → p ≡ operator 1 (h ▷ e) → operatedState (ainIn h) p ≡ ainIn (h ▷ e)
+  unfolding ainIn
+  ain-left p o = λ i. record {
+    out = given-left 1 i;
+    mode = actual-left 1 i;
+    filter = keptOf (filter-left i);
+    last = keptOf (last-left i);
+    operator = o i;
+    alarms = alarms-left i;
+  }
+
+  pub tot-left : (z : ℤ) (status : ℕ) → z ≡ total (h ▷ e) → status ≡ operator 2 (h ▷ e) .status
+      → record { total = z; out = given 2 h; mode = actual 2 h; rate = keptOf (rateValue h); «operator_status» = status } ≡ totIn (h ▷ e)
+  unfolding totIn
+  tot-left z status t o = λ i. record { total = t i; out = given-left 2 i; mode = actual-left 2 i; rate = keptOf (rate-left i); «operator_status» = o i }
+
+  pub ao-left : (p : Pair) (sp rcasIn : Setpoint) → p ≡ operator 3 (h ▷ e) → sp ≡ inputAt 0 (h ▷ e) → rcasIn ≡ inputAt 1 (h ▷ e)
+      → record { out = given 3 h; mode = actual 3 h; operator = p; sp = sp; «rcas_in» = rcasIn } ≡ aoIn (h ▷ e)
+  unfolding aoIn
+  ao-left p sp rcasIn o u v = λ i. record { out = given-left 3 i; mode = actual-left 3 i; operator = o i; sp = u i; «rcas_in» = v i }
+
 -- ---- an accepted write
 
 -- a function goes into both cases
@@ -254,9 +305,6 @@ module _ (h : History Event) (block number a b : ℕ) where
   unoperated : (B : ℕ) → eqb block B ≡ false → operator B h ≡ operator B then
   unoperated B e = sym (operator-wrote B ∙ (λ i. cond (e i && eqb number (output B)) (pair a b) (operator B h)))
 
-  alarms-same : alarmsAt h ≡ alarmsAt then
-  alarms-same = sym (alarms-still h (wrote block number a b) (λ a. unfold raises in refl) (λ a. unfold clears in refl))
-
   input-same : (i : ℕ) → inputAt i h ≡ inputAt i then
   input-same i = sym (input-still i (wrote block number a b) refl h refl refl)
 
@@ -285,8 +333,7 @@ module _ (h : History Event) (block number a b : ℕ) where
 
   -- the state with another operator's pair
   ain-operator : (p : Pair) → p ≡ operator 1 then → operatedState (ainIn h) p ≡ ainIn then
-  unfolding ainIn given actual filterValue lastUsable carried
-  ain-operator p e = λ i. record { out = given 1 h; mode = actual 1 h; filter = keptOf (filterValue h); last = keptOf (lastUsable h); operator = e i; alarms = alarms-same i }
+  ain-operator p e = ain-left h (wrote block number a b) (λ A f s o. refl) p e
 
   ain-still : operator 1 h ≡ operator 1 then → ainIn h ≡ ainIn then
   unfolding ainIn
@@ -312,8 +359,7 @@ module _ (h : History Event) (block number a b : ℕ) where
   total-wrote p q e f = λ i. cond (sym e i && sym f i) (thousandthsOf (floatOf a)) (total h)
 
   tot-operator : (z : ℤ) (status : ℕ) → z ≡ total then → status ≡ operator 2 then .status → record { total = z; out = given 2 h; mode = actual 2 h; rate = keptOf (rateValue h); «operator_status» = status } ≡ totIn then
-  unfolding totIn given actual rateValue carried
-  tot-operator z status e f = λ i. record { total = e i; out = given 2 h; mode = actual 2 h; rate = keptOf (rateValue h); «operator_status» = f i }
+  tot-operator z status e f = tot-left h (wrote block number a b) (λ A f s o. refl) z status e f
 
   tot-still : (p q : Bool) → eqb block 2 ≡ p → eqb number 10 ≡ q → operator 2 h ≡ operator 2 then → record { total = cond (p && q) (thousandthsOf (floatOf a)) (total h); out = given 2 h; mode = actual 2 h; rate = keptOf (rateValue h); «operator_status» = operator 2 h .status } ≡ totIn then
   tot-still p q e f o = tot-operator (cond (p && q) (thousandthsOf (floatOf a)) (total h)) (operator 2 h .status) (total-wrote p q e f) (λ i. o i .status)
@@ -335,8 +381,8 @@ module _ (h : History Event) (block number a b : ℕ) where
   ao-untouched e = λ i. aoOf (λ N. untouched 3 N e i)
 
   ao-operator : (p : Pair) → p ≡ operator 3 then → operatedBy (aoIn h) p ≡ aoIn then
-  unfolding aoIn operatedBy given actual carried
-  ao-operator p e = λ i. record { out = given 3 h; mode = actual 3 h; operator = e i; sp = input-same 0 i; «rcas_in» = input-same 1 i }
+  unfolding aoIn operatedBy
+  ao-operator p e = ao-left h (wrote block number a b) (λ A f s o. refl) p (inputAt 0 h) (inputAt 1 h) e (input-same 0) (input-same 1)
 
   ao-still : operator 3 h ≡ operator 3 then → aoIn h ≡ aoIn then
   unfolding aoIn operatedBy

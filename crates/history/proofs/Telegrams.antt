@@ -29,7 +29,7 @@ use Rattle.device.specs.Calls.{telegramOf, warmStarted}
 use Rattle.history.specs.Past.{History, _▷_, count, countSince, since, latest, carried}
 use Rattle.history.specs.Calls.{Event, telegram, warmed}
 use Rattle.history.specs.Rules.{pair, stored, code, table, outOfService, stRev, actual, operator, filterValue, lastUsable, Alarm, hiHi, hi, lo, loLo, stands, raises, clears, rateValue, total, given, held, came, setpoint, silence, ifs, isTick, isStart, pairOn, holds, isUsable, isIfs, isUsableOn, isIfsOn}
-use Rattle.history.proofs.Ruled.{keptOf, inputAt, alarmsAt, ainAt, totAt, aoAt, ainIn, totIn, aoIn, deviceOf, alarms-still, input-still}
+use Rattle.history.proofs.Ruled.{inputAt, alarmsAt, ainAt, totAt, aoAt, ainIn, totIn, aoIn, deviceOf, ain-left, tot-left, ao-left, input-still}
 use Rattle.history.proofs.Truth.{and-true, and-false}
 
 -- an input by its four parts
@@ -107,16 +107,13 @@ module _ (h : History Event) (bytes : List ℕ) (l : eqb (length bytes) 5 ≡ tr
     abbrev state : AoState
     state = Ao.telegramOf (aoIn h) input bytes .state
 
-    alarms-same : alarmsAt h ≡ alarmsAt then
-    alarms-same = sym (alarms-still h (telegram input bytes) (λ a. unfold raises in refl) (λ a. unfold clears in refl))
-
     ain-same : ainIn h ≡ ainIn then
-    unfolding ainIn given actual operator latest filterValue lastUsable carried
-    ain-same = λ i. record { out = given 1 h; mode = actual 1 h; filter = keptOf (filterValue h); last = keptOf (lastUsable h); operator = operator 1 h; alarms = alarms-same i }
+    unfolding ainIn operator latest
+    ain-same = ain-left h (telegram input bytes) (λ A f s o. refl) (operator 1 h) refl
 
     tot-same : totIn h ≡ totIn then
-    unfolding totIn given actual operator latest total rateValue carried
-    tot-same = refl
+    unfolding totIn operator latest total carried
+    tot-same = tot-left h (telegram input bytes) (λ A f s o. refl) (total h) (operator 2 h .status) refl refl
 
     pub heard : state ≡ aoIn then → telegramOf (deviceOf h) input bytes .device ≡ deviceOf then
     unfolding telegramOf deviceOf stored latest table ainAt totAt aoAt stRev count
@@ -132,8 +129,8 @@ module _ (h : History Event) (bytes : List ℕ) (l : eqb (length bytes) 5 ≡ tr
     inputs sp rcasIn = record { out = given 3 h; mode = actual 3 h; operator = operator 3 h; sp = sp; «rcas_in» = rcasIn }
 
     listened : (sp rcasIn : Setpoint) → sp ≡ inputAt 0 then → rcasIn ≡ inputAt 1 then → inputs sp rcasIn ≡ aoIn then
-    unfolding aoIn given actual operator latest carried
-    listened sp rcasIn e f = λ i. inputs (e i) (f i)
+    unfolding operator latest
+    listened sp rcasIn e f = ao-left h (telegram input bytes) (λ A f s o. refl) (operator 3 h) sp rcasIn refl e f
 
     -- the input that it came on, and the other one
     taken : (i : ℕ) → eqb input i ≡ true → inputAfter (inputAt i h) (five bytes) ≡ inputAt i then
