@@ -23,12 +23,11 @@ use Rattle.linearisation.specs.Laws.{pairs-back, made-valid}
 use Rattle.ain.specs.Tick as Ain
 use Rattle.device.specs.declared.Device.{Device}
 use Rattle.device.specs.declared.Answered.{Answered}
-use Rattle.device.specs.Stored.{revAfter}
 use Rattle.device.specs.Calls.{loadBy, loadOf}
 use Rattle.history.specs.Past.{History, _▷_, told, count, latest, carried}
 use Rattle.history.specs.Calls.{Event, loaded}
 use Rattle.history.specs.Rules.{orElse, stored, table, along, said, lowest, linear, measured, isWhole, allFinite, rising, code, refused, tabled, toLoad, isStaticWrite, stRev, operator, total}
-use Rattle.history.proofs.Ruled.{inputAt, ainAt, totAt, aoAt, ainIn, totIn, aoIn, deviceOf, ain-left, tot-left, ao-left, input-still}
+use Rattle.history.proofs.Ruled.{inputAt, ainAt, totAt, aoAt, ainIn, totIn, aoIn, deviceOf, ain-left, tot-left, ao-left, rev-step, input-still}
 
 -- ---- what a value becomes
 
@@ -246,11 +245,6 @@ module _ (h : History Event) (bytes : List ℕ) where
   unfolding aoIn operator latest
   ao-same = ao-left h (loaded bytes) (λ A f s o. refl) (operator 3 h) (inputAt 0 h) (inputAt 1 h) refl (input-same 0) (input-same 1)
 
-  -- AIN's ST_REV is one up
-  rev-up : (n : ℕ) → revAfter true (n % 65536) ≡ (n + 1) % 65536
-  unfolding revAfter
-  rev-up n = omega arith
-
   module _ (e : toLoad h bytes ≡ Accepted) where
     parts : (eqb (code h 0 18) 0 ≡ false) × (judged bytes ≡ Accepted)
     parts = go (eqb (code h 0 18) 0) (unfold toLoad in e)
@@ -268,7 +262,7 @@ module _ (h : History Event) (bytes : List ℕ) where
     unfolding deviceOf stored latest table ainAt totAt aoAt stRev count
     ruled-load = ap (λ (x : Answered). x .device) unlocked ∙ (λ i. record {
       «write_locking» = code h 0 18;
-      ain = record { settings = ainAt h; state = ain-same i; «st_rev» = rev-up (count (isStaticWrite 1) h) i; table = tableOf (pairsIn bytes) };
+      ain = record { settings = ainAt h; state = ain-same i; «st_rev» = rev-step true (count (isStaticWrite 1) h) i; table = tableOf (pairsIn bytes) };
       tot = record { settings = totAt h; state = tot-same i; «st_rev» = stRev h 2 };
       ao = record { settings = aoAt h; state = ao-same i; «st_rev» = stRev h 3 };
     })

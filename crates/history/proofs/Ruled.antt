@@ -243,6 +243,12 @@ pub cond-ap : {X A : Type 0} (g : X → A) (p : Bool) (x y : X) → g (cond p x 
 cond-ap g true x y = refl
 cond-ap g false x y = refl
 
+-- ST_REV, for any block
+pub rev-step : (c : Bool) (n : ℕ) → revAfter c (n % 65536) ≡ cond c (n + 1) n % 65536
+unfolding revAfter
+rev-step true n = omega arith
+rev-step false n = refl
+
 module _ (h : History Event) (block number a b : ℕ) where
   abbrev then : History Event
   then = h ▷ wrote block number a b
@@ -269,12 +275,6 @@ module _ (h : History Event) (block number a b : ℕ) where
       go : (p : Bool) → eqb block 0 ≡ p → cond p a (code h 0 18) ≡ code then 0 18
       go true q = sym (ap (λ (x : Bool). cond x a (code h 0 18)) (only q)) ∙ written codeIn 0 18 q
       go false q = ap codeIn (untouched 0 18 q)
-
-  -- ST_REV, for any block
-  rev-step : (c : Bool) (n : ℕ) → revAfter c (n % 65536) ≡ cond c (n + 1) n % 65536
-  unfolding revAfter
-  rev-step true n = omega arith
-  rev-step false n = refl
 
   rev-wrote : (B : ℕ) (p : Bool) → eqb block B ≡ p → cond p (revAfter (isStatic B number) (stRev h B)) (stRev h B) ≡ stRev then B
   unfolding stRev count
