@@ -1,6 +1,7 @@
--- What the function blocks have in common: document 01, Mode, Parameters and AIN tick (input status). Assumes nothing.
+-- What the function blocks have in common: document 01, Mode, Parameters and AIN tick (input status), and document 02,
+-- request 2. Assumes nothing.
 use Prim.Native.Nat.{ℕ}
-use mathlib.Core.Bool.{Bool, true, false, not, _||_, cond}
+use mathlib.Core.Bool.{Bool, true, false, not, _&&_, _||_, cond}
 use lib.Dec.{eqb}
 use lib.Ieee.{Float, binary32, ofBits}
 use Rattle.wire.specs.declared.Pair.{Pair}
@@ -33,6 +34,11 @@ heldOut out = record { bits = out .bits; status = 0x1f }
 -- P15: the operator's pair before a write of OUT
 abbrev pub freshOperator : Pair
 freshOperator = record { bits = 0; status = 0x4c }
+
+-- Q2.1: the operator's pair after an accepted write of the target: where that changes it to Man from another target, what was last given. Q2.2: otherwise,
+-- Man over Man too, the pair stays. Said over any type A of pair: nothing here depends on the kind of value
+unfoldable pub operatorAfter : {A : Type 0} → ℕ → ℕ → A → A → A
+operatorAfter old new given operator = cond (eqb new man && not (eqb old man)) given operator
 
 -- a value that may be missing
 abbrev pub none : Kept

@@ -1,7 +1,8 @@
 // What the function blocks have in common: modes, kept values, the state of an output out of service, and the
-// classification of a transducer's status (document 01, Mode, Parameters, AIN tick).
+// classification of a transducer's status (document 01, Mode, Parameters, AIN tick), and the operator's pair on entering
+// Man (document 02, request 2).
 ghost use mathlib.Core.Path.{_≡_};
-ghost use Rattle.blocks.specs.Common.{actualMode, heldOut, freshOperator, none, kept, inputStatus};
+ghost use Rattle.blocks.specs.Common.{actualMode, heldOut, freshOperator, operatorAfter, none, kept, inputStatus};
 use wire::Pair;
 
 // The codes of the modes.
@@ -46,7 +47,7 @@ pub fn held(out: Pair) -> Pair
     }
 }
 
-// The operator's pair before any was written.
+// The operator's pair before any was written or taken.
 pub fn fresh_operator() -> Pair
     ensures { λ r. ⌜ r ≡ freshOperator ⌝ }
 {
@@ -54,6 +55,17 @@ pub fn fresh_operator() -> Pair
         bits: 0,
         status: 0x4c,
     }
+}
+
+// The operator's pair after a write of the target: on entering Man it is the pair last given.
+pub fn operator_after(old: u32, new: u32, given: Pair, operator: Pair) -> Pair
+    ensures { λ r. ⌜ r ≡ operatorAfter old new given operator ⌝ }
+{
+    let entered = (new == MAN) & (old != MAN);
+    if entered {
+        return given;
+    }
+    operator
 }
 
 pub fn nothing() -> Kept

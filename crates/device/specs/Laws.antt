@@ -18,7 +18,6 @@ use Rattle.wire.specs.declared.Received.{Received}
 use Rattle.wire.specs.Bytes.{pairOf as received}
 use Rattle.scaling.specs.declared.Scale.{Scale}
 use Rattle.ain.specs.declared.State.{State as AinState}
-use Rattle.ain.specs.State.{operatedState}
 use Rattle.tot.specs.declared.State.{State as TotState}
 use Rattle.ao.specs.declared.State.{State as AoState}
 use Rattle.ao.specs.declared.Taken.{Taken}
@@ -40,7 +39,7 @@ use Rattle.device.specs.declared.Device.{Device}
 use Rattle.device.specs.declared.Answered.{Answered}
 use Rattle.device.specs.declared.Reading.{Reading}
 use Rattle.device.specs.declared.Reading.the-variants.{Read}
-use Rattle.device.specs.Stored.{pairOf, revAfter, ainSettings, totSettings, aoSettings, ainWritten, totWritten, aoWritten, storedIn}
+use Rattle.device.specs.Stored.{revAfter, ainSettings, totSettings, aoSettings, ainWritten, totWritten, aoWritten, storedIn}
 use Rattle.device.specs.Read.{code, float, ends, ainWords, totWords, aoWords, wordsOf, readBy, readOf}
 use Rattle.device.specs.Calls.{standingOf, writeBy, writeOf, tickOf, telegramOf, warmStarted}
 
@@ -192,17 +191,17 @@ module _ (number n : ℕ) (other : eqb number n ≡ false) where
       go next false c e = refl
 
   module _ (a b : ℕ) where
-    ain-kept : (s : AinBlock) → eqb number 10 ≡ false → (eqb n 1 && isStatic 1 number) ≡ false → ainWords (ainWritten s number a b) n ≡ ainWords s n
+    ain-kept : (s : AinBlock) → (eqb n 1 && isStatic 1 number) ≡ false → ainWords (ainWritten s number a b) n ≡ ainWords s n
     unfolding ainWords ainWritten ainSettings
-    ain-kept s o r = simp (o, keep-rev (isStatic 1 number), keep code, keep float, keep ends)
+    ain-kept s r = simp (keep-rev (isStatic 1 number), keep code, keep float, keep ends)
 
     tot-kept : (s : TotBlock) → eqb number 10 ≡ false → (eqb n 1 && isStatic 2 number) ≡ false → totWords (totWritten s number a b) n ≡ totWords s n
     unfolding totWords totWritten totSettings
     tot-kept s o r = simp (o, keep-rev (isStatic 2 number), keep code, keep float)
 
-    ao-kept : (s : AoBlock) → eqb number 37 ≡ false → (eqb n 1 && isStatic 3 number) ≡ false → aoWords (aoWritten s number a b) n ≡ aoWords s n
-    unfolding aoWords aoWritten aoSettings
-    ao-kept s o r = simp (o, keep-rev (isStatic 3 number), keep code, keep float, keep ends)
+    ao-kept : (s : AoBlock) → (eqb n 1 && isStatic 3 number) ≡ false → aoWords (aoWritten s number a b) n ≡ aoWords s n
+    unfolding aoWords aoWritten aoSettings operatedBy
+    ao-kept s r = simp (keep-rev (isStatic 3 number), keep code, keep float, keep ends)
 
     lock-kept : (d : Device) → T (storedEntry (entryOf 0 number)) → readOf (storedIn d 0 number a b) 0 n ≡ readOf d 0 n
     unfolding readOf wordsOf storedIn entryOf entryIn physical
@@ -222,9 +221,9 @@ module _ (number n : ℕ) (other : eqb number n ≡ false) where
         (λ (block : ℕ). T (storedEntry (entryOf block number)) → (eqb n 1 && isStatic block number) ≡ false
         → readOf (storedIn d block number a b) block n ≡ readOf d block n)
         (λ t r. lock-kept d t)
-        (λ t r. ap (λ (w : Words). readBy w (entryIn ain n)) (ain-kept (d .ain) (unlike ain number 10 t refl) r))
+        (λ t r. ap (λ (w : Words). readBy w (entryIn ain n)) (ain-kept (d .ain) r))
         (λ t r. ap (λ (w : Words). readBy w (entryIn tot n)) (tot-kept (d .tot) (unlike tot number 10 t refl) r))
-        (λ t r. ap (λ (w : Words). readBy w (entryIn ao n)) (ao-kept (d .ao) (unlike ao number 37 t refl) r))
+        (λ t r. ap (λ (w : Words). readBy w (entryIn ao n)) (ao-kept (d .ao) r))
         (λ block h t r. absurd (subst (λ (e : Entry). T (storedEntry e)) (no-block block number h) t))
 
 -- another block
@@ -309,21 +308,11 @@ module _ (d : Device) (block number a b : ℕ) where
 
   no-alarm : T (takes (entryOf block number) a b) → storedIn d block number a b .ain .state .alarms ≡ d .ain .state .alarms
   unfolding storedIn ainWritten
-  no-alarm t = go (eqb block 1) (eqb number 10)
+  no-alarm t = go (eqb block 1)
     where
-      operated : AinState
-      operated = operatedState (d .ain .state) (pairOf a b)
-
-      go : (p q : Bool) → cond p
-          (record {
-            settings = ainSettings (d .ain .settings) number a b;
-            state = cond q operated (d .ain .state);
-            «st_rev» = revAfter (isStatic 1 number) (d .ain .«st_rev»);
-            table = d .ain .table;
-          }) (d .ain) .state .alarms ≡ d .ain .state .alarms
-      go true true = refl
-      go true false = refl
-      go false q = refl
+      go : (p : Bool) → cond p (ainWritten (d .ain) number a b) (d .ain) .state .alarms ≡ d .ain .state .alarms
+      go true = refl
+      go false = refl
 
   pub write-law : a < 2 ^ 32 → b < 2 ^ 32 → WriteLaw d block number a b (writeOf d block number a b)
   write-law f g = record {

@@ -1,10 +1,11 @@
--- What an accepted write stores, document 01, Parameters and History rules: each field beside its parameter's number. Assumes nothing.
+-- What an accepted write stores, document 01, Parameters and History rules, and document 02, request 2: each field beside its parameter's number. Assumes nothing.
 use Prim.Native.Nat.{ℕ, _+_, _%_}
 use mathlib.Core.Bool.{Bool, cond}
 use lib.Dec.{eqb}
 use Rattle.numbers.specs.Floats.{floatOf}
 use Rattle.scaling.specs.declared.Scale.{Scale}
 use Rattle.wire.specs.declared.Pair.{Pair}
+use Rattle.blocks.specs.Common.{operatorAfter}
 use Rattle.ain.specs.declared.Settings.{Settings as AinSettings}
 use Rattle.ain.specs.State.{operatedState}
 use Rattle.tot.specs.declared.Settings.{Settings as TotSettings}
@@ -65,11 +66,17 @@ aoSettings s number a b = record {
 unfoldable pub revAfter : Bool → ℕ → ℕ
 revAfter counted rev = cond counted ((rev + 1) % 65536) rev
 
--- P15: a block after an accepted write; one of OUT is kept as the operator's pair, one of TOTAL sets the total and keeps its status for Man
+-- P15: the operator's pair of AIN or AO after an accepted write: one of OUT, whose number goes before, brings it. Q2.1, Q2.2: one of the target makes it
+-- the pair last given where it enters Man
+unfoldable pub operatorBy : ℕ → ℕ → ℕ → ℕ → ℕ → Pair → Pair → Pair
+operatorBy output number a b target given operator =
+    cond (eqb number output) (pairOf a b) (cond (eqb number 5) (operatorAfter target a given operator) operator)
+
+-- P15: a block after an accepted write; one of TOTAL sets the total and keeps its status for Man
 unfoldable pub ainWritten : AinBlock → ℕ → ℕ → ℕ → AinBlock
 ainWritten block number a b = record {
   settings = ainSettings (block .settings) number a b;
-  state = cond (eqb number 10) (operatedState (block .state) (pairOf a b)) (block .state);
+  state = operatedState (block .state) (operatorBy 10 number a b (block .settings .target) (block .state .out) (block .state .operator));
   «st_rev» = revAfter (isStatic 1 number) (block .«st_rev»);
   table = block .table;
 }
@@ -84,7 +91,7 @@ totWritten block number a b = record {
 unfoldable pub aoWritten : AoBlock → ℕ → ℕ → ℕ → AoBlock
 aoWritten block number a b = record {
   settings = aoSettings (block .settings) number a b;
-  state = cond (eqb number 37) (operatedBy (block .state) (pairOf a b)) (block .state);
+  state = operatedBy (block .state) (operatorBy 37 number a b (block .settings .target) (block .state .out) (block .state .operator));
   «st_rev» = revAfter (isStatic 3 number) (block .«st_rev»);
 }
 

@@ -1,12 +1,12 @@
 // The device: the three function blocks and write protection on one value that C can hold, and the calls on it
-// (document 01, Calls on the device; document 02, request 1).
+// (document 01, Calls on the device; document 02, requests 1 and 2).
 ghost use mathlib.Core.Path.{_≡_};
 ghost use Prim.Native.Nat.{_%_, _≤_};
 ghost use denote.Ref.{ptr};
 ghost use Rattle.wire.specs.Image.{imageAnswer, imageBytes, partOf, partPlace};
 ghost use Rattle.parameters.specs.Table.{defaultOf};
 ghost use Rattle.device.specs.Factory.{ainBy, totBy, aoBy, factoryDevice};
-ghost use Rattle.device.specs.Stored.{ainSettings, totSettings, aoSettings, revAfter, ainWritten, totWritten, aoWritten, storedIn};
+ghost use Rattle.device.specs.Stored.{ainSettings, totSettings, aoSettings, revAfter, operatorBy, ainWritten, totWritten, aoWritten, storedIn};
 ghost use Rattle.device.specs.Read.{code, float, ends, given, alarmByte, ainWords, totWords, aoWords, wordsOf, readOf};
 ghost use Rattle.device.specs.Calls.{standingOf, writeOf, tickOf, telegramOf, tabledBy, loadOf, warmStarted};
 use ain::Alarms;
@@ -234,36 +234,55 @@ fn status_of(b: u32) -> u8
     (b % 256) as u8
 }
 
+// The operator's pair after a write, by the number of the block's OUT.
+fn operator_by(
+    output: u8,
+    parameter: u8,
+    a: u32,
+    b: u32,
+    target: u32,
+    given: Pair,
+    operator: Pair,
+) -> Pair
+    ensures { λ r. ⌜ r ≡ operatorBy output parameter a b target given operator ⌝ }
+{
+    let written = parameter == output;
+    let targeted = parameter == 5;
+    if written {
+        let status = status_of(b);
+        return Pair {
+            bits: a,
+            status: status,
+        };
+    }
+    if targeted {
+        return blocks::operator_after(target, a, given, operator);
+    }
+    operator
+}
+
 fn ain_written(block: AinBlock, parameter: u8, a: u32, b: u32) -> AinBlock
     ensures { λ r. ⌜ r ≡ ainWritten block parameter a b ⌝ }
 {
     let counted = parameters::counts(1, parameter);
     let rev = rev_after(counted, block.st_rev);
     let settings = ain_settings(block.settings, parameter, a, b);
-    let status = status_of(b);
     let old = block.state;
-    let operated = ain::operated(
-        old,
-        Pair {
-            bits: a,
-            status: status,
-        },
+    let operator = operator_by(
+        10,
+        parameter,
+        a,
+        b,
+        block.settings.target,
+        old.out,
+        old.operator,
     );
-    let table = block.table;
-    match parameter {
-        10 => AinBlock {
-            settings: settings,
-            state: operated,
-            st_rev: rev,
-            table: table,
-        },
-        _ => AinBlock {
-            settings: settings,
-            state: old,
-            st_rev: rev,
-            table: table,
-        },
-    }
+    let state = ain::operated(old, operator);
+    let mut next = block;
+    next.settings = settings;
+    next.state = state;
+    next.st_rev = rev;
+    next
 }
 
 fn tot_written(block: TotBlock, parameter: u8, a: u32, b: u32) -> TotBlock
@@ -295,27 +314,22 @@ fn ao_written(block: AoBlock, parameter: u8, a: u32, b: u32) -> AoBlock
     let counted = parameters::counts(3, parameter);
     let rev = rev_after(counted, block.st_rev);
     let settings = ao_settings(block.settings, parameter, a, b);
-    let status = status_of(b);
     let old = block.state;
-    let operated = ao::operated(
-        old,
-        Pair {
-            bits: a,
-            status: status,
-        },
+    let operator = operator_by(
+        37,
+        parameter,
+        a,
+        b,
+        block.settings.target,
+        old.out,
+        old.operator,
     );
-    match parameter {
-        37 => AoBlock {
-            settings: settings,
-            state: operated,
-            st_rev: rev,
-        },
-        _ => AoBlock {
-            settings: settings,
-            state: old,
-            st_rev: rev,
-        },
-    }
+    let state = ao::operated(old, operator);
+    let mut next = block;
+    next.settings = settings;
+    next.state = state;
+    next.st_rev = rev;
+    next
 }
 
 fn stored(d: Device, block: u8, parameter: u8, a: u32, b: u32) -> Device

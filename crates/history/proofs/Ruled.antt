@@ -33,12 +33,12 @@ use Rattle.device.specs.declared.Device.{Device}
 use Rattle.device.specs.declared.AinBlock.{AinBlock}
 use Rattle.device.specs.declared.TotBlock.{TotBlock}
 use Rattle.device.specs.declared.AoBlock.{AoBlock}
-use Rattle.device.specs.Stored.{scaleOf, pairOf as pairWritten, ainSettings, totSettings, aoSettings, revAfter, ainWritten, totWritten, aoWritten, storedIn}
+use Rattle.device.specs.Stored.{scaleOf, pairOf as pairWritten, ainSettings, totSettings, aoSettings, revAfter, operatorBy, ainWritten, totWritten, aoWritten, storedIn}
 use Rattle.device.specs.Factory.{ainBy, totBy, aoBy, factoryDevice}
 use Rattle.history.specs.Past.{History, start, _▷_, count, countSince, since, latest, told, carried}
 use Rattle.history.specs.Calls.{Event, wrote, words}
-use Rattle.history.specs.Rules.{pair, statics, outputs, among, defaults, orZeros, orElse, stored, wordsTo, never, code, float, scale, table, isStaticWrite, stRev, actual, operator, filterValue, lastUsable, Alarm, hiHi, hi, lo, loLo, stands, rateValue, total, given, came, setpoint, silence, ifs, isTick, isStart, onTick, pairOn, holds, isUsable, isIfs, isUsableOn, isIfsOn, raises, clears}
-use Rattle.history.proofs.Truth.{and-true}
+use Rattle.history.specs.Rules.{pair, statics, outputs, among, defaults, orZeros, orElse, stored, wordsTo, never, code, float, scale, table, isStaticWrite, stRev, actual, lastOut, entersMan, handed, man, operator, filterValue, lastUsable, Alarm, hiHi, hi, lo, loLo, stands, rateValue, total, given, came, setpoint, silence, ifs, isTick, isStart, onTick, pairOn, holds, isUsable, isIfs, isUsableOn, isIfsOn, raises, clears}
+use Rattle.history.proofs.Truth.{and-true, and-false}
 use Rattle.history.proofs.Lists.{static-same}
 
 -- ---- the device
@@ -257,7 +257,7 @@ module _ (h : History Event) (block number a b : ℕ) where
   unfolding stored latest
   stored-wrote B N = go (eqb block B && eqb number N)
     where
-      go : (p : Bool) → orElse (orZeros (defaults B) N) (told (cond p (some (words a b)) none) (latest (wordsTo B N) never h)) ≡ cond p (words a b) (orElse (orZeros (defaults B) N) (latest (wordsTo B N) never h))
+      go : (p : Bool) → orElse (orZeros (defaults B) N) (told (cond p (some (words a b)) none) (latest (λ p. wordsTo B N) never h)) ≡ cond p (words a b) (orElse (orZeros (defaults B) N) (latest (λ p. wordsTo B N) never h))
       go true = refl
       go false = refl
 
@@ -286,24 +286,27 @@ module _ (h : History Event) (block number a b : ℕ) where
   abbrev output : ℕ → ℕ
   output B = cond (eqb B 3) 37 10
 
-  operator-wrote : (B : ℕ) → operator B then ≡ cond (eqb block B && eqb number (output B)) (pair a b) (operator B h)
+  -- the target is written and enters Man
+  abbrev enters : ℕ → Bool
+  enters B = eqb number 5 && entersMan B (code h B 5) a
+
+  operator-wrote : (B : ℕ) → operator B then ≡ cond (not (eqb block B)) (operator B h) (cond (eqb number (output B)) (pair a b) (cond (enters B) (lastOut B h) (operator B h)))
   unfolding operator latest
-  operator-wrote B = go (eqb block B && eqb number (output B))
+  operator-wrote B = go (eqb block B) (eqb number (output B)) (enters B)
     where
-      put : Option Words → Pair
-      put none = pair 0 0x4c
-      put (some w) = pair (w .first) (w .second)
+      go : (p q r : Bool) → orElse (pair 0 0x4c) (told (cond (not p) none (cond q (some (pair a b)) (cond r (some (lastOut B h)) none))) (latest (handed B) isStart h))
+          ≡ cond (not p) (orElse (pair 0 0x4c) (latest (handed B) isStart h)) (cond q (pair a b) (cond r (lastOut B h) (orElse (pair 0 0x4c) (latest (handed B) isStart h))))
+      go false q r = refl
+      go true true r = refl
+      go true false true = refl
+      go true false false = refl
 
-      go : (p : Bool) → put (told (cond p (some (words a b)) none) (latest (wordsTo B (output B)) isStart h)) ≡ cond p (pair a b) (put (latest (wordsTo B (output B)) isStart h))
-      go true = refl
-      go false = refl
-
-  -- of the block written, by whether its output was; and of another block
-  operated : (B : ℕ) (q : Bool) → eqb block B ≡ true → eqb number (output B) ≡ q → cond q (pair a b) (operator B h) ≡ operator B then
-  operated B q e f = sym (operator-wrote B ∙ (λ i. cond (e i && f i) (pair a b) (operator B h)))
+  -- of the block written, by whether its output was, and whether it enters Man; and of another block
+  operated : (B : ℕ) (q r : Bool) → eqb block B ≡ true → eqb number (output B) ≡ q → enters B ≡ r → cond q (pair a b) (cond r (lastOut B h) (operator B h)) ≡ operator B then
+  operated B q r e f g = sym (operator-wrote B ∙ (λ i. cond (not (e i)) (operator B h) (cond (f i) (pair a b) (cond (g i) (lastOut B h) (operator B h)))))
 
   unoperated : (B : ℕ) → eqb block B ≡ false → operator B h ≡ operator B then
-  unoperated B e = sym (operator-wrote B ∙ (λ i. cond (e i && eqb number (output B)) (pair a b) (operator B h)))
+  unoperated B e = sym (operator-wrote B ∙ (λ i. cond (not (e i)) (operator B h) (cond (eqb number (output B)) (pair a b) (cond (enters B) (lastOut B h) (operator B h)))))
 
   input-same : (i : ℕ) → inputAt i h ≡ inputAt i then
   input-same i = sym (input-still i (wrote block number a b) refl h refl refl)
@@ -388,45 +391,56 @@ module _ (h : History Event) (block number a b : ℕ) where
   unfolding aoIn operatedBy
   ao-still e = ao-operator (operator 3 h) e
 
-  -- ---- the whole device, where block 0's write is one of the lock, and a written status a byte
-  module _ (only : eqb block 0 ≡ true → eqb number 18 ≡ true) (small : (B : ℕ) → eqb block B ≡ true → T (among (outputs B) number) → b ≤ 255) where
+  -- ---- the whole device, where block 0's write is one of the lock, a written status a byte, and the pairs last given are those read
+  module _ (only : eqb block 0 ≡ true → eqb number 18 ≡ true) (small : (B : ℕ) → eqb block B ≡ true → T (among (outputs B) number) → b ≤ 255) (ainLast : given 1 h ≡ lastOut 1 h) (aoLast : given 3 h ≡ lastOut 3 h) where
     byte : b ≤ 255 → b % 256 ≡ b
     byte s = omega arith
 
     -- the pair written, where an output was
     pair-written : (B : ℕ) → eqb block B ≡ true → eqb number (output B) ≡ true → T (among (outputs B) number) → pairWritten a b ≡ operator B then
-    pair-written B e f t = (λ i. pair a (byte (small B e t) i)) ∙ operated B true e f
+    pair-written B e f t = (λ i. pair a (byte (small B e t) i)) ∙ operated B true (enters B) e f refl
 
     is : (q : Bool) → q ≡ true → T (q || false)
     is true e = tt
     is false e = absurd (true≢false (sym e))
 
-    ain-state : eqb block 1 ≡ true → (q : Bool) → eqb number 10 ≡ q → cond q (operatedState (ainIn h) (pairWritten a b)) (ainIn h) ≡ ainIn then
-    ain-state e true f = ain-operator (pairWritten a b) (pair-written 1 e f (unfold outputs in is (eqb number 10) f))
-    ain-state e false f = ain-still (operated 1 false e f)
+    -- what a write makes of it in AIN and AO
+    pair-after : (B : ℕ) → eqb B 2 ≡ false → given B h ≡ lastOut B h → eqb block B ≡ true → (eqb number (output B) ≡ true → T (among (outputs B) number))
+        → operatorBy (output B) number a b (code h B 5) (given B h) (operator B h) ≡ operator B then
+    unfolding operatorBy Common.operatorAfter
+    pair-after B n last e t = go (eqb number (output B)) refl
+      where
+        same : (s m w x : Bool) → x ≡ false → cond s (cond (m && not w) (lastOut B h) (operator B h)) (operator B h) ≡ cond (s && (not x && not w && m)) (lastOut B h) (operator B h)
+        same s m w true y = absurd (true≢false y)
+        same false m w false y = refl
+        same true true true false y = refl
+        same true true false false y = refl
+        same true false true false y = refl
+        same true false false false y = refl
+
+        go : (q : Bool) → eqb number (output B) ≡ q → cond q (pairWritten a b) (cond (eqb number 5) (cond (eqb a man && not (eqb (code h B 5) man)) (given B h) (operator B h)) (operator B h)) ≡ operator B then
+        go true f = pair-written B e f (t f)
+        go false f = ap (λ (p : Pair). cond (eqb number 5) (cond (eqb a man && not (eqb (code h B 5) man)) p (operator B h)) (operator B h)) last
+            ∙ same (eqb number 5) (eqb a man) (eqb (code h B 5) man) (eqb B 2) n ∙ operated B false (enters B) e f refl
 
     ain-then : (p : Bool) → eqb block 1 ≡ p → cond p (ainWritten (ainBlock h) number a b) (ainBlock h) ≡ ainBlock then
-    unfolding ainWritten table latest
-    ain-then true e = λ i. record { settings = ain-written e i; state = ain-state e (eqb number 10) refl i; «st_rev» = rev-wrote 1 true e i; table = tableOf (table h) }
+    unfolding ainWritten ainAt ainIn table latest
+    ain-then true e = λ i. record { settings = ain-written e i; state = ain-operator _ (pair-after 1 refl ainLast e (unfold outputs in is (eqb number 10))) i; «st_rev» = rev-wrote 1 true e i; table = tableOf (table h) }
     ain-then false e = λ i. record { settings = ain-untouched e i; state = ain-still (unoperated 1 e) i; «st_rev» = rev-wrote 1 false e i; table = tableOf (table h) }
 
     tot-state : eqb block 2 ≡ true → (q : Bool) → eqb number 10 ≡ q → cond q (writtenState (totIn h) a (b % 256)) (totIn h) ≡ totIn then
     unfolding totIn
     tot-state e true f = tot-operator (thousandthsOf (floatOf a)) (b % 256) (total-wrote true true e f) (λ i. pair-written 2 e f (unfold outputs in is (eqb number 10) f) i .status)
-    tot-state e false f = tot-still true false e f (operated 2 false e f)
+    tot-state e false f = tot-still true false e f (operated 2 false false e f (and-false (eqb number 5)))
 
     tot-then : (p : Bool) → eqb block 2 ≡ p → cond p (totWritten (totBlock h) number a b) (totBlock h) ≡ totBlock then
     unfolding totWritten totIn
     tot-then true e = λ i. record { settings = tot-written e i; state = tot-state e (eqb number 10) refl i; «st_rev» = rev-wrote 2 true e i }
     tot-then false e = λ i. record { settings = tot-untouched e i; state = tot-still false (eqb number 10) e refl (unoperated 2 e) i; «st_rev» = rev-wrote 2 false e i }
 
-    ao-state : eqb block 3 ≡ true → (q : Bool) → eqb number 37 ≡ q → cond q (operatedBy (aoIn h) (pairWritten a b)) (aoIn h) ≡ aoIn then
-    ao-state e true f = ao-operator (pairWritten a b) (pair-written 3 e f (unfold outputs in is (eqb number 37) f))
-    ao-state e false f = ao-still (operated 3 false e f)
-
     ao-then : (p : Bool) → eqb block 3 ≡ p → cond p (aoWritten (aoBlock h) number a b) (aoBlock h) ≡ aoBlock then
-    unfolding aoWritten
-    ao-then true e = λ i. record { settings = ao-written e i; state = ao-state e (eqb number 37) refl i; «st_rev» = rev-wrote 3 true e i }
+    unfolding aoWritten aoAt aoIn
+    ao-then true e = λ i. record { settings = ao-written e i; state = ao-operator _ (pair-after 3 refl aoLast e (unfold outputs in is (eqb number 37))) i; «st_rev» = rev-wrote 3 true e i }
     ao-then false e = λ i. record { settings = ao-untouched e i; state = ao-still (unoperated 3 e) i; «st_rev» = rev-wrote 3 false e i }
 
     pub ruled-wrote : storedIn (deviceOf h) block number a b ≡ deviceOf then

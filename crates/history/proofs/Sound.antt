@@ -82,7 +82,7 @@ sound-write h s block number a b old t f block′ number′ = go (eqb block bloc
     same : block ≡ block′ → number ≡ number′ → T (sound (entryOf block′ number′) (words a b))
     same p q = subst (λ (x : ℕ). T (sound (entryOf x number′) (words a b))) p (subst (λ (x : ℕ). T (sound (entryOf block x) (words a b))) q (accepted-sound (entryOf block number) a b (accepted-takes s block number a b (accepted-is (ground s block number a b) t)) f))
 
-    go : (p : Bool) → eqb block block′ ≡ p → (q : Bool) → eqb number number′ ≡ q → T (sound (entryOf block′ number′) (orElse (orZeros (defaults block′) number′) (told (cond (p && q) (some (words a b)) none) (latest (wordsTo block′ number′) never h))))
+    go : (p : Bool) → eqb block block′ ≡ p → (q : Bool) → eqb number number′ ≡ q → T (sound (entryOf block′ number′) (orElse (orZeros (defaults block′) number′) (told (cond (p && q) (some (words a b)) none) (latest (λ p. wordsTo block′ number′) never h))))
     go true ep true eq = same (eqb-true block block′ ep) (eqb-true number number′ eq)
     go true ep false eq = old block′ number′
     go false ep q eq = old block′ number′

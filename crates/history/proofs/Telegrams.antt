@@ -69,7 +69,7 @@ module _ (input : ℕ) (h : History Event) (e : Event) (p : Pair) (here : pairOn
   unfolding setpoint latest
   setpoint-is = rw (s, usable-is, here) (go u)
     where
-      go : (b : Bool) → Rattle.history.specs.Rules.orElse (floatOf 0) (Rattle.history.specs.Past.told (cond b (some (floatOf (p .bits))) none) (latest (Rattle.history.specs.Rules.setpointOn input) isStart h)) ≡ cond b (floatOf (p .bits)) (setpoint input h)
+      go : (b : Bool) → Rattle.history.specs.Rules.orElse (floatOf 0) (Rattle.history.specs.Past.told (cond b (some (floatOf (p .bits))) none) (latest (λ q. Rattle.history.specs.Rules.setpointOn input) isStart h)) ≡ cond b (floatOf (p .bits)) (setpoint input h)
       go true = refl
       go false = refl
 

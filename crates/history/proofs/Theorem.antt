@@ -40,7 +40,7 @@ use Rattle.device.specs.Read.{readOf, wordsOf, ainWords, aoWords}
 use Rattle.device.specs.Calls.{standingOf, writeBy, writeOf, tickOf, telegramOf, loadOf, warmStarted}
 use Rattle.history.specs.Past.{History, start, _▷_, latest, carried, Each}
 use Rattle.history.specs.Calls.{Call, tick, write, load, warmStart, Event, wrote, loaded, seen, fitting, allFit, after, event, reachedFrom, traceFrom, reached, trace}
-use Rattle.history.specs.Rules.{outputs, among, stored, code, table, toWrite, toTelegram, toLoad, isAccepted, answer, accepted, given, oldOut}
+use Rattle.history.specs.Rules.{outputs, among, stored, code, table, toWrite, toTelegram, toLoad, isAccepted, answer, accepted, given, lastOut, oldOut}
 use Rattle.history.specs.Rules as Rules
 use Rattle.history.specs.Claim.{Tick, answers, Claim}
 use Rattle.history.proofs.Lists.{present, standingAt, ground-same}
@@ -54,9 +54,9 @@ use Rattle.history.proofs.ReadBack.{reads-same, image-answer, image-sam
 -- what holds of a device and the accepted events
 pub record Holds (d : Device) (h : History Event) : Type 0 where
   pub ruled : d ≡ deviceOf h
-  -- the value last given is what reads of OUT gave after the tick before
-  pub ainOld : given 1 h .bits ≡ oldOut 1 h
-  pub aoOld : given 3 h .bits ≡ oldOut 3 h
+  -- the pair last given is what reads of OUT gave after the tick before
+  pub ainLast : given 1 h ≡ lastOut 1 h
+  pub aoLast : given 3 h ≡ lastOut 3 h
   pub sound : Sound h
   -- the device has a table where one came
   pub tabled : hasTable (tableOf (table h)) ≡ Rules.tabled h
@@ -125,9 +125,9 @@ write-ruled h block number a b fit H = go (toWrite h block number a b) refl (wri
         let taken = accepted-takes (standingOf (deviceOf h)) block number a b met in
         rw (f, e) (record {
           ruled = ruled-wrote h block number a b (only-lock (standingOf (deviceOf h)) block number a b met)
-              (λ B e m. status-small a b block number (taken-present (entryOf block number) number a b taken) taken (subst (λ (x : ℕ). T (among (outputs x) number)) (sym (eqb-true block B e)) m));
-          ainOld = unfold given oldOut carried in H .ainOld;
-          aoOld = unfold given oldOut carried in H .aoOld;
+              (λ B e m. status-small a b block number (taken-present (entryOf block number) number a b taken) taken (subst (λ (x : ℕ). T (among (outputs x) number)) (sym (eqb-true block B e)) m)) (H .ainLast) (H .aoLast);
+          ainLast = unfold given lastOut carried in H .ainLast;
+          aoLast = unfold given lastOut carried in H .aoLast;
           sound = sound-write h (standingOf (deviceOf h)) block number a b (H .sound) (subst (λ (x : Answer). T (isAccepted x)) (sym met) tt) fit;
           tabled = unfold table Rules.tabled latest in H .tabled;
           ticks = (H .ticks, tt);
@@ -149,8 +149,8 @@ telegram-ruled h input bytes H = go (ltb 1 input) refl (eqb (length bytes) 5) re
     go false ep false eq = rw (ep, eq, telegram-refused (deviceOf h) input bytes (inr eq)) H
     go false ep true eq = rw (ep, eq) (record {
       ruled = ruled-telegram h bytes eq input (small input (ltb-false 1 input ep));
-      ainOld = unfold given oldOut carried in H .ainOld;
-      aoOld = unfold given oldOut carried in H .aoOld;
+      ainLast = unfold given lastOut carried in H .ainLast;
+      aoLast = unfold given lastOut carried in H .aoLast;
       sound = unfold stored latest in H .sound;
       tabled = unfold table Rules.tabled latest in H .tabled;
       ticks = (H .ticks, tt);
@@ -163,8 +163,8 @@ load-ruled h bytes H = go (toLoad h bytes) refl
     go : (x : Answer) → toLoad h bytes ≡ x → Holds (loadOf (deviceOf h) bytes .device) (cond (isAccepted (toLoad h bytes)) (h ▷ loaded bytes) h)
     go Accepted e = rw e (record {
       ruled = ruled-load h bytes e;
-      ainOld = unfold given oldOut carried in H .ainOld;
-      aoOld = unfold given oldOut carried in H .aoOld;
+      ainLast = unfold given lastOut carried in H .ainLast;
+      aoLast = unfold given lastOut carried in H .aoLast;
       sound = unfold stored latest in H .sound;
       tabled = loaded-came h bytes e;
       ticks = (H .ticks, tt);
@@ -172,16 +172,22 @@ load-ruled h bytes H = go (toLoad h bytes) refl
     go (Refused r) e = rw (e, load-refused (deviceOf h) bytes r (load-answer h bytes ∙ e)) H
 
 tick-ruled : (h : History Event) (fault : Bool) (ain tot : Pair) → Holds (deviceOf h) h → Holds (after (deviceOf h) (tick fault ain tot)) (h ▷ event (deviceOf h) (tick fault ain tot))
-unfolding after event readOf entryOf entryIn Table.ain Table.ao wordsOf ainWords aoWords stored latest oldOut carried
+unfolding after event readOf entryOf entryIn Table.ain Table.ao wordsOf ainWords aoWords stored latest lastOut carried
 tick-ruled h fault ain tot H = record {
-  ruled = ruled-tick h (H .sound) fault ain tot (H .ainOld) (H .aoOld) ainOut aoOut order (λ i. ain-given h (H .sound) fault ain tot (H .ainOld) (H .aoOld) ainOut aoOut order i .bits);
-  ainOld = λ i. sym (ain-given h (H .sound) fault ain tot (H .ainOld) (H .aoOld) ainOut aoOut order) i .bits;
-  aoOld = λ i. sym (ao-given h (H .sound) fault ain tot (H .ainOld) (H .aoOld) ainOut aoOut order) i .bits;
+  ruled = ruled-tick h (H .sound) fault ain tot ainOld aoOld ainOut aoOut order (λ i. ain-given h (H .sound) fault ain tot ainOld aoOld ainOut aoOut order i .bits);
+  ainLast = sym (ain-given h (H .sound) fault ain tot ainOld aoOld ainOut aoOut order);
+  aoLast = sym (ao-given h (H .sound) fault ain tot ainOld aoOld ainOut aoOut order);
   sound = H .sound;
   tabled = unfold table Rules.tabled in H .tabled;
-  ticks = (H .ticks, record { drive = order-is h (H .sound) fault ain tot (H .ainOld) (H .aoOld) ainOut aoOut order; quality = good-is h (H .sound) fault ain tot (H .ainOld) (H .aoOld) ainOut aoOut order });
+  ticks = (H .ticks, record { drive = order-is h (H .sound) fault ain tot ainOld aoOld ainOut aoOut order; quality = good-is h (H .sound) fault ain tot ainOld aoOld ainOut aoOut order });
 }
   where
+    ainOld : given 1 h .bits ≡ oldOut 1 h
+    ainOld = unfold oldOut in λ i. H .ainLast i .bits
+
+    aoOld : given 3 h .bits ≡ oldOut 3 h
+    aoOld = unfold oldOut in λ i. H .aoLast i .bits
+
     next : Device
     next = tickOf (deviceOf h) fault ain tot .device
 
@@ -197,8 +203,8 @@ tick-ruled h fault ain tot H = record {
 warm-ruled : (h : History Event) → Holds (deviceOf h) h → Holds (warmStarted (deviceOf h)) (h ▷ Event.warmed)
 warm-ruled h H = record {
   ruled = ruled-warm h;
-  ainOld = unfold given oldOut carried in H .ainOld;
-  aoOld = unfold given oldOut carried in H .aoOld;
+  ainLast = unfold given lastOut carried in λ i. Rules.held (H .ainLast i);
+  aoLast = unfold given lastOut carried in λ i. Rules.held (H .aoLast i);
   sound = unfold stored latest in H .sound;
   tabled = unfold table Rules.tabled latest in H .tabled;
   ticks = (H .ticks, tt);
@@ -226,7 +232,7 @@ run (c ∷ cs) d t fit H = run cs (after d c) (t ▷ event d c) (and-r (fitting 
 
 start-holds : Holds factoryDevice (accepted start)
 unfolding accepted
-start-holds = record { ruled = ruled-start; ainOld = unfold given oldOut carried in refl; aoOld = unfold given oldOut carried in refl; sound = sound-start; tabled = unfold table Rules.tabled latest in refl; ticks = tt }
+start-holds = record { ruled = ruled-start; ainLast = unfold given lastOut carried in refl; aoLast = unfold given lastOut carried in refl; sound = sound-start; tabled = unfold table Rules.tabled latest in refl; ticks = tt }
 
 reached-holds : (cs : List Call) → T (allFit cs) → Holds (reached cs) (accepted (trace cs))
 unfolding reached trace

@@ -29,10 +29,10 @@ module _ {E : Type 0} where
   since raised cleared start = false
   since raised cleared (h ▷ e) = raised h e || (since raised cleared h && not (cleared h e))
 
-  -- what the latest event that tells something tells, forgotten at an event that forgets
-  unfoldable pub latest : {A : Type 0} → (E → Option A) → (E → Bool) → History E → Option A
+  -- what the latest event that tells something tells, by what was before it, forgotten at an event that forgets
+  unfoldable pub latest : {A : Type 0} → (History E → E → Option A) → (E → Bool) → History E → Option A
   latest tells forgets start = none
-  latest tells forgets (h ▷ e) = cond (forgets e) none (told (tells e) (latest tells forgets h))
+  latest tells forgets (h ▷ e) = cond (forgets e) none (told (tells h e) (latest tells forgets h))
 
   -- a value that each event may move, by what was before it
   unfoldable pub carried : {A : Type 0} → A → (History E → E → A → A) → History E → A

@@ -66,10 +66,10 @@ module _ {E : Type 0} where
 
   -- ---- latest
 
-  module _ {A : Type 0} (tells : E → Option A) (forgets : E → Bool) where
+  module _ {A : Type 0} (tells : History E → E → Option A) (forgets : E → Bool) where
     -- an event told it, and none since has told anything or forgotten it
-    pub latest-holds : (p : History E) (x : E) (a : A) (h : History E) → forgets x ≡ false → tells x ≡ some a
-        → From (λ q e. (forgets e ≡ false) × (tells e ≡ none)) (p ▷ x) h → latest tells forgets h ≡ some a
+    pub latest-holds : (p : History E) (x : E) (a : A) (h : History E) → forgets x ≡ false → tells p x ≡ some a
+        → From (λ q e. (forgets e ≡ false) × (tells q e ≡ none)) (p ▷ x) h → latest tells forgets h ≡ some a
     unfolding latest
     latest-holds p x a h n t here = rw (n, t)
     latest-holds p x a h n t (later {h = q} {e = y} f c) = rw (c .0, c .1) (latest-holds p x a q n t f)

@@ -1,4 +1,4 @@
--- The history rules of document 01, with request 1 of document 02: what the head answers, from the accepted events alone (R2): the arguments of calls, and
+-- The history rules of document 01, with requests 1 and 2 of document 02: what the head answers, from the accepted events alone (R2): the arguments of calls, and
 -- OUT of AIN and AO as read after each tick. Every memory and every choice is said here. What is cited of other crates, arithmetic, encodings and the
 -- table's allowed words, is listed in tests/cited and pinned in Cited.
 -- A letter and number before a colon is a sentence of the paper, as docs/TRACE.md counts them. Assumes nothing.
@@ -134,7 +134,7 @@ never e = false
 
 -- R10, P14a: a stored parameter has the words of the last accepted write to it, before any its default; a warm start leaves it (R17)
 unfoldable pub stored : History Event → ℕ → ℕ → Words
-stored h block number = orElse (orZeros (defaults block) number) (latest (wordsTo block number) never h)
+stored h block number = orElse (orZeros (defaults block) number) (latest (λ p. wordsTo block number) never h)
 
 -- P8: stored words as a whole number, as a single by its bits, and as the two ends of a scale
 abbrev pub code : History Event → ℕ → ℕ → ℕ
@@ -158,7 +158,7 @@ pairsTold warmed = none
 
 -- Q1.9a: the table in force is that of the last accepted load, before one it has no pairs; a warm start leaves it
 unfoldable pub table : History Event → List Point
-table h = orElse [] (latest pairsTold never h)
+table h = orElse [] (latest (λ p. pairsTold) never h)
 
 abbrev pub isSome : {A : Type 0} → Option A → Bool
 isSome none = false
@@ -166,7 +166,7 @@ isSome (some a) = true
 
 -- whether a table came
 unfoldable pub tabled : History Event → Bool
-tabled h = isSome (latest pairsTold never h)
+tabled h = isSome (latest (λ p. pairsTold) never h)
 
 -- Q1.4, Q1.5: what the last pair with its x at or below a value makes of it: with a pair behind it a place on the line through both, each
 -- operation rounded, product, quotient and sum in this order; Q1.7: without one its own y
@@ -299,19 +299,42 @@ isStaticWrite block warmed = false
 unfoldable pub stRev : History Event → ℕ → ℕ
 stRev h block = count (isStaticWrite block) h % 65536
 
--- ---- what the operator wrote, and old OUT
+-- ---- what was last given, and the operator's pair
 
--- P15, R17: the pair that the operator last wrote to OUT or TOTAL since start, before one 0 with 0x4C; of TOTAL's only the status is used
-unfoldable pub operator : ℕ → History Event → Pair
-operator block h = written (latest (wordsTo block (cond (eqb block 3) 37 10)) isStart h)
-  where
-    written : Option Words → Pair
-    written none = pair 0 0x4c
-    written (some w) = pair (w .first) (w .second)
+-- M2, M3: a value that is only held has status 0x1F
+abbrev pub held : Pair → Pair
+held p = pair (p .bits) 0x1f
 
--- R6: old OUT of AIN and of AO, as the read after the last tick gave it; before a tick 0
+-- R6: what AIN and AO last gave, as the read of OUT after the last tick has it; at first 0, held at a start
+unfoldable pub lastOut : ℕ → History Event → Pair
+lastOut block =
+    carried (pair 0 0x1f)
+    (λ h e old. onTick (λ fault ain tot ainOut aoOut. let out = cond (eqb block 1) ainOut aoOut in pair (out .first) (out .second)) (held old) old e)
+
+-- R6: old OUT is its value
 unfoldable pub oldOut : ℕ → History Event → ℕ
-oldOut block = carried 0 (λ h e old. onTick (λ fault ain tot ainOut aoOut. cond (eqb block 1) (ainOut .first) (aoOut .first)) old old e)
+oldOut block h = lastOut block h .bits
+
+-- Q2.1: AIN's or AO's target, another than Man, is changed to Man; Q2.2: over Man nothing is changed
+abbrev pub entersMan : ℕ → ℕ → ℕ → Bool
+entersMan block before after = not (eqb block 2) && not (eqb before man) && eqb after man
+
+-- P15: the pair that an event makes the operator's: the words of a write of OUT or TOTAL (10, in AO 37); Q2.1: at a write of the target that enters Man what
+-- was last given before it
+abbrev pub handed : ℕ → History Event → Event → Option Pair
+handed block h (ticked fault ain tot ainOut aoOut order) = none
+handed block h (telegram input bytes) = none
+handed block h (wrote block′ number a b) =
+    cond (not (eqb block′ block)) none
+    (cond (eqb number (cond (eqb block 3) 37 10)) (some (pair a b))
+    (cond (eqb number 5 && entersMan block (code h block 5) a) (some (lastOut block h)) none))
+handed block h (loaded bytes) = none
+handed block h warmed = none
+
+-- P15, R17, Q2.3: the operator's pair is the latest of these since start, whichever of the two it was, before one 0 with 0x4C, whatever the target is; of
+-- TOTAL's only the status is used
+unfoldable pub operator : ℕ → History Event → Pair
+operator block h = orElse (pair 0 0x4c) (latest (handed block) isStart h)
 
 -- ---- input status
 
@@ -564,7 +587,7 @@ setpointOn input e = cond (isUsableOn input e) (bitsOn (pairOn input e)) none
     bitsOn (some p) = some (floatOf (p .bits))
 
 unfoldable pub setpoint : ℕ → History Event → Float
-setpoint input h = orElse (floatOf 0) (latest (setpointOn input) isStart h)
+setpoint input h = orElse (floatOf 0) (latest (λ p. setpointOn input) isStart h)
 
 -- O4: n, the ticks after an input's last usable telegram, whatever their mode
 unfoldable pub silence : ℕ → History Event → ℕ
@@ -622,10 +645,6 @@ unfoldable pub order : History Event → Bool → Order
 order h fault = cond (isOut h fault 3) Rest (aoGives h fault .order)
 
 -- ---- what reads give
-
--- M2, M3: a value that is only held has status 0x1F
-abbrev pub held : Pair → Pair
-held p = pair (p .bits) 0x1f
 
 -- P14b, M2 to M4, R17: the pair last given by AIN, TOT and AO: at first 0, held through O/S ticks and at a start
 unfoldable pub given : ℕ → History Event → Pair
