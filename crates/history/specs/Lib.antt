@@ -2,6 +2,7 @@ pub mod Past
 pub mod PastLaws
 pub mod Calls
 pub mod Rules
+pub mod ManLaws
 pub mod Claim
 pub mod Points
 pub mod Cited
