@@ -17,17 +17,11 @@ use Rattle.wire.specs.declared.Refusal.the-variants.{NoSuchInput}
 use Rattle.wire.specs.declared.Received.{Received}
 use Rattle.wire.specs.Bytes.{pairOf as received}
 use Rattle.scaling.specs.declared.Scale.{Scale}
-use Rattle.numbers.specs.Floats.{floatOf}
-use Rattle.blocks.specs.Common.{man, actualMode, operatorAfter}
 use Rattle.ain.specs.declared.State.{State as AinState}
-use Rattle.ain.specs.Tick as Ain
 use Rattle.tot.specs.declared.State.{State as TotState}
 use Rattle.ao.specs.declared.State.{State as AoState}
 use Rattle.ao.specs.declared.Taken.{Taken}
-use Rattle.ao.specs.declared.Order.the-variants.{Position}
 use Rattle.ao.specs.State.{operatedBy}
-use Rattle.ao.specs.FailSafe.{byMode}
-use Rattle.ao.specs.Tick as Ao
 use Rattle.ao.specs.Telegram.{refusedWith, receivedOn, telegramOf as aoTelegram}
 use Rattle.parameters.specs.declared.Words.{Words}
 use Rattle.parameters.specs.declared.Class.the-variants.{N}
@@ -36,7 +30,7 @@ use Rattle.parameters.specs.declared.Entry.{Entry}
 use Rattle.parameters.specs.declared.Entry.the-variants.{NoBlock, NoParameter, Parameter}
 use Rattle.parameters.specs.Table.{Row, words, physical, ain, tot, ao, entryIn, entryOf, isStatic}
 use Rattle.parameters.specs.Words.{allowsOf}
-use Rattle.parameters.specs.Refused.{readOnly, storedEntry, targetIn, ground}
+use Rattle.parameters.specs.Refused.{readOnly, storedEntry, ground}
 use Rattle.parameters.specs.Laws.{by-block, no-block, by-rows, _also_, takes, accepted-takes, shownBy, shown-back}
 use Rattle.device.specs.declared.AinBlock.{AinBlock}
 use Rattle.device.specs.declared.TotBlock.{TotBlock}
@@ -45,8 +39,8 @@ use Rattle.device.specs.declared.Device.{Device}
 use Rattle.device.specs.declared.Answered.{Answered}
 use Rattle.device.specs.declared.Reading.{Reading}
 use Rattle.device.specs.declared.Reading.the-variants.{Read}
-use Rattle.device.specs.Stored.{revAfter, operatorBy, ainSettings, totSettings, aoSettings, ainWritten, totWritten, aoWritten, storedIn}
-use Rattle.device.specs.Read.{code, float, ends, given, ainWords, totWords, aoWords, wordsOf, readBy, readOf}
+use Rattle.device.specs.Stored.{revAfter, ainSettings, totSettings, aoSettings, ainWritten, totWritten, aoWritten, storedIn}
+use Rattle.device.specs.Read.{code, float, ends, ainWords, totWords, aoWords, wordsOf, readBy, readOf}
 use Rattle.device.specs.Calls.{standingOf, writeBy, writeOf, tickOf, telegramOf, warmStarted}
 
 -- what an accepted write moves of what reads give: the parameter written if it is stored, and its block's ST_REV if it is static
@@ -304,7 +298,7 @@ module _ (d : Device) (block number a b : ℕ) where
     taken : T (takes (entryOf block number) a b)
     taken = accepted-takes (standingOf d) block number a b (sym answered ∙ e)
 
-    stored : writeOf d block number a b .device ≡ storedIn d block number a b
+    pub stored : writeOf d block number a b .device ≡ storedIn d block number a b
     unfolding writeOf
     stored = ap (λ (g : Answer). writeBy d block number a b g .device) (sym answered ∙ e)
 
@@ -332,40 +326,3 @@ module _ (d : Device) (block number a b : ℕ) where
     refused = left-as-was;
     alarms = by-answer (λ (x : Device). x .ain .state .alarms ≡ d .ain .state .alarms) refl no-alarm;
   }
-
--- ---- entering Man
-
--- OUT of AIN and of AO
-abbrev pub outOf : ℕ → ℕ
-outOf block = cond (eqb block 3) 37 10
-
--- Q2.1, no jump: where a write changes the target of AIN or AO to Man from another, a tick without the fault flag then reads as OUT did before both
-pub man-stands : (d : Device) (b : ℕ) (x y : Pair) (block : ℕ) → T (eqb block 1 || eqb block 3) → eqb (targetIn (standingOf d) block) man ≡ false
-    → writeOf d block 5 man b .answer ≡ Accepted → readOf (tickOf (writeOf d block 5 man b .device) false x y .device) block (outOf block) ≡ readOf d block (outOf block)
-unfolding readOf wordsOf ainWords aoWords entryOf entryIn ain ao targetIn
-man-stands d b x y =
-    by-block
-    (λ (block : ℕ). T (eqb block 1 || eqb block 3) → eqb (targetIn (standingOf d) block) man ≡ false → writeOf d block 5 man b .answer ≡ Accepted
-    → readOf (tickOf (writeOf d block 5 man b .device) false x y .device) block (outOf block) ≡ readOf d block (outOf block))
-    (λ t. absurd t)
-    (λ t other e. ap (λ (p : Pair). Read (given p)) (ain-stands other e))
-    (λ t. absurd t)
-    (λ t other e. ap (λ (p : Pair). Read (given p)) (ao-stands other e))
-    (λ block h t. absurd (none block h t))
-  where
-    ain-stands : eqb (d .ain .settings .target) man ≡ false → writeOf d 1 5 man b .answer ≡ Accepted
-        → tickOf (writeOf d 1 5 man b .device) false x y .device .ain .state .out ≡ d .ain .state .out
-    ain-stands other e = unfold tickOf storedIn ainWritten ainSettings operatorBy operatorAfter Ain.tickOf Ain.tickBy Ain.manTick actualMode in rw (stored d 1 5 man b e, other)
-
-    ao-stands : eqb (d .ao .settings .target) man ≡ false → writeOf d 3 5 man b .answer ≡ Accepted
-        → tickOf (writeOf d 3 5 man b .device) false x y .device .ao .state .out ≡ d .ao .state .out
-    ao-stands other e = unfold tickOf storedIn aoWritten aoSettings operatorBy operatorAfter Ao.tickOf Ao.tickedWith Ao.givenIn byMode actualMode operatedBy in rw (stored d 3 5 man b e, other)
-
-    none : (block : ℕ) → 3 < block → T (eqb block 1 || eqb block 3) → ⊥
-    none block h = rw (ne-eqb block 1 (omega arith), ne-eqb block 3 (omega arith)) (λ t. t)
-
--- and the valve is ordered to stay where it was
-pub man-stays : (d : Device) (b : ℕ) (x y : Pair) → eqb (d .ao .settings .target) man ≡ false → writeOf d 3 5 man b .answer ≡ Accepted
-    → tickOf (writeOf d 3 5 man b .device) false x y .order ≡ Position (floatOf (d .ao .state .out .bits))
-unfolding tickOf storedIn aoWritten aoSettings operatorBy operatorAfter Ao.tickOf Ao.tickedWith Ao.givenIn byMode actualMode operatedBy
-man-stays d b x y other e = rw (stored d 3 5 man b e, other)
