@@ -4,4 +4,3 @@ pub mod Factory
 pub mod Read
 pub mod Calls
 pub mod Laws
-pub mod ManLaws

@@ -1,15 +1,33 @@
--- What request 2 of document 02 comes to, over the rules, for AIN and AO alike: what was last given stands in Man. Assumes nothing.
-use Prim.Native.Nat.{ℕ}
+-- What request 2 of document 02 comes to, for AIN and AO alike: what was last given stands in Man; over the rules, and of every device. Assumes nothing.
+use Prim.Native.Nat.{ℕ, _<_}
+use native.Mathlib.Omega.{arith}
 use mathlib.Core.Path.{_≡_, refl, sym, ap, _∙_, subst}
-use mathlib.Core.Bool.{Bool, true, false, cond, true≢false}
+use mathlib.Core.Bool.{Bool, true, false, _||_, cond, true≢false}
 use mathlib.Core.Logic.{_⊎_, inl, inr}
 use mathlib.Core.Option.{Option, none, some}
-use lib.Dec.{eqb}
+use lib.Dec.{T, eqb}
+use borrow.Author.Tests.{ne-eqb}
 use Rattle.numbers.specs.Floats.{floatOf}
 use Rattle.wire.specs.declared.Pair.{Pair}
+use Rattle.wire.specs.declared.Answer.the-variants.{Accepted}
+use Rattle.blocks.specs.Common.{actualMode, operatorAfter}
+use Rattle.ain.specs.Tick as Ain
 use Rattle.ao.specs.declared.Order.{Order}
 use Rattle.ao.specs.declared.Order.the-variants.{Position}
+use Rattle.ao.specs.State.{operatedBy}
+use Rattle.ao.specs.FailSafe.{byMode}
+use Rattle.ao.specs.Tick as Ao
 use Rattle.parameters.specs.declared.Words.{Words}
+use Rattle.parameters.specs.Table.{ain, ao, entryIn, entryOf}
+use Rattle.parameters.specs.Refused.{targetIn}
+use Rattle.parameters.specs.Laws.{by-block}
+use Rattle.device.specs.declared.Device.{Device}
+use Rattle.device.specs.declared.Reading.the-variants.{Read}
+use Rattle.device.specs.Stored.{operatorBy, ainSettings, aoSettings, ainWritten, aoWritten, storedIn}
+use Rattle.device.specs.Read.{ainWords, aoWords, wordsOf, readOf}
+use Rattle.device.specs.Read as Reads
+use Rattle.device.specs.Calls.{standingOf, writeOf, tickOf}
+use Rattle.device.specs.Laws.{stored}
 use Rattle.history.specs.Past.{History, _▷_, carried}
 use Rattle.history.specs.PastLaws.{From, here, later, latest-holds}
 use Rattle.history.specs.Calls.{Event, ticked, telegram, wrote, loaded, warmed}
@@ -84,3 +102,40 @@ pub no-move : (h h′ : History Event) (b : ℕ) → eqb (code h 3 5) man ≡ fa
     → (fault : Bool) → modeAt h′ fault 3 ≡ man → order h′ fault ≡ Position (floatOf (lastOut 3 h .bits))
 unfolding order aoGives
 no-move h h′ b other f fault m = rw m (ap (λ (p : Pair). Position (floatOf (p .bits))) (entered 3 (inr refl) h h′ b other f))
+
+-- ---- of every device, by its reads
+
+-- OUT of AIN and of AO
+abbrev pub outOf : ℕ → ℕ
+outOf block = cond (eqb block 3) 37 10
+
+-- Q2.1, no jump: where a write changes the target of AIN or AO to Man from another, a tick without the fault flag then reads as OUT did before both
+pub man-stands : (d : Device) (b : ℕ) (x y : Pair) (block : ℕ) → T (eqb block 1 || eqb block 3) → eqb (targetIn (standingOf d) block) man ≡ false
+    → writeOf d block 5 man b .answer ≡ Accepted → readOf (tickOf (writeOf d block 5 man b .device) false x y .device) block (outOf block) ≡ readOf d block (outOf block)
+unfolding readOf wordsOf ainWords aoWords entryOf entryIn ain ao targetIn
+man-stands d b x y =
+    by-block
+    (λ (block : ℕ). T (eqb block 1 || eqb block 3) → eqb (targetIn (standingOf d) block) man ≡ false → writeOf d block 5 man b .answer ≡ Accepted
+    → readOf (tickOf (writeOf d block 5 man b .device) false x y .device) block (outOf block) ≡ readOf d block (outOf block))
+    (λ t. absurd t)
+    (λ t other e. ap (λ (p : Pair). Read (Reads.given p)) (ain-stands other e))
+    (λ t. absurd t)
+    (λ t other e. ap (λ (p : Pair). Read (Reads.given p)) (ao-stands other e))
+    (λ block h t. absurd (none block h t))
+  where
+    ain-stands : eqb (d .ain .settings .target) man ≡ false → writeOf d 1 5 man b .answer ≡ Accepted
+        → tickOf (writeOf d 1 5 man b .device) false x y .device .ain .state .out ≡ d .ain .state .out
+    ain-stands other e = unfold tickOf storedIn ainWritten ainSettings operatorBy operatorAfter Ain.tickOf Ain.tickBy Ain.manTick actualMode in rw (stored d 1 5 man b e, other)
+
+    ao-stands : eqb (d .ao .settings .target) man ≡ false → writeOf d 3 5 man b .answer ≡ Accepted
+        → tickOf (writeOf d 3 5 man b .device) false x y .device .ao .state .out ≡ d .ao .state .out
+    ao-stands other e = unfold tickOf storedIn aoWritten aoSettings operatorBy operatorAfter Ao.tickOf Ao.tickedWith Ao.givenIn byMode actualMode operatedBy in rw (stored d 3 5 man b e, other)
+
+    none : (block : ℕ) → 3 < block → T (eqb block 1 || eqb block 3) → ⊥
+    none block h = rw (ne-eqb block 1 (omega arith), ne-eqb block 3 (omega arith)) (λ t. t)
+
+-- and the valve is ordered to stay where it was
+pub man-stays : (d : Device) (b : ℕ) (x y : Pair) → eqb (d .ao .settings .target) man ≡ false → writeOf d 3 5 man b .answer ≡ Accepted
+    → tickOf (writeOf d 3 5 man b .device) false x y .order ≡ Position (floatOf (d .ao .state .out .bits))
+unfolding tickOf storedIn aoWritten aoSettings operatorBy operatorAfter Ao.tickOf Ao.tickedWith Ao.givenIn byMode actualMode operatedBy
+man-stays d b x y other e = rw (stored d 3 5 man b e, other)
