@@ -3,6 +3,10 @@
 
 type Slip = (&'static str, &'static [(&'static str, &'static str)]);
 
+// Where AIN and AO take the operator's pair on entering Man.
+const AIN_ENTRY: &str = "let target = words.mode(false)?;\n                self.operator = operators_pair(self.common.target, target, self.out, self.operator);";
+const AO_ENTRY: &str = "let target = words.mode(true)?;\n                self.operator = operators_pair(self.common.target, target, self.out, self.operator);";
+
 const SLIPS: &[Slip] = &[
     // The paper's own "Plausible slips" and the buyer's note.
     ("AO scales without its low end", &[("let mut f = self.pv_scale.fraction(w);", "let mut f = w / (self.pv_scale.high - self.pv_scale.low);")]),
@@ -31,9 +35,62 @@ const SLIPS: &[Slip] = &[
     // Modes.
     ("the actual mode one tick late", &[("        self.actual = if fault { OUT_OF_SERVICE } else { self.target };\n        self.actual", "        std::mem::replace(&mut self.actual, if fault { OUT_OF_SERVICE } else { self.target })")]),
     ("a fault changes the target", &[("        self.actual = if fault", "        if fault { self.target = OUT_OF_SERVICE; }\n        self.actual = if fault")]),
-    ("Man takes the pair on entry", &[("5 => self.common.target = words.mode(true)?,", "5 => {\n                let mode = words.mode(true)?;\n                if mode == MAN && self.common.target != MAN { self.operator = self.out; }\n                self.common.target = mode;\n            }")]),
     ("written OUT read at once", &[("                self.operator = pair;\n            }\n            38", "                self.operator = pair;\n                self.out = pair;\n            }\n            38")]),
     ("AO falls from RCas to Auto in fail-safe", &[("                (0, _) =>", "                (0, _) if { self.common.actual = AUTO; false } => unreachable!(),\n                (0, _) =>")]),
+    // Entering Man. A pair that is taken under another target is never given, as the next entry takes another: so a wrong
+    // one shows after an entry, or where it is taken in Man.
+    ("AIN takes no pair on entry", &[(AIN_ENTRY, "let target = words.mode(false)?;")]),
+    ("AO takes no pair on entry", &[(AO_ENTRY, "let target = words.mode(true)?;")]),
+    ("no pair taken from Auto", &[("new == MAN && old != MAN", "new == MAN && old != MAN && old != AUTO")]),
+    ("no pair taken from RCas", &[("new == MAN && old != MAN", "new == MAN && old != MAN && old != RCAS")]),
+    ("no pair taken from O/S", &[("new == MAN && old != MAN", "new == MAN && old != MAN && old != OUT_OF_SERVICE")]),
+    ("a pair taken at the first entry alone", &[("new == MAN && old != MAN", "new == MAN && old != MAN && (operator.value.to_bits(), operator.status) == (0, 0x4C)")]),
+    ("Man over Man takes the pair", &[("new == MAN && old != MAN", "new == MAN")]),
+    ("the pair taken on leaving Man", &[("new == MAN && old != MAN", "new != MAN && old == MAN")]),
+    ("AIN enters Man by the actual mode", &[(AIN_ENTRY, "let target = words.mode(false)?;\n                self.operator = operators_pair(self.common.actual, target, self.out, self.operator);")]),
+    ("AO enters Man by the actual mode", &[(AO_ENTRY, "let target = words.mode(true)?;\n                self.operator = operators_pair(self.common.actual, target, self.out, self.operator);")]),
+    ("the pair taken where the actual mode becomes Man", &[
+        (AO_ENTRY, "let target = words.mode(true)?;"),
+        ("let now = self.ticks;", "let now = self.ticks;\n        let before = self.common.actual;"),
+        ("                self.out = self.operator;\n                Order::Position", "                if before != MAN { self.operator = self.out; }\n                self.out = self.operator;\n                Order::Position"),
+    ]),
+    ("the pair taken at the Man tick", &[
+        ("    filter: Option<f32>,\n", "    filter: Option<f32>,\n    entered: bool,\n"),
+        ("                filter: None,\n", "                filter: None,\n                entered: false,\n"),
+        ("        ain.alarms = 0;\n", "        ain.alarms = 0;\n        ain.entered = false;\n"),
+        (AIN_ENTRY, "let target = words.mode(false)?;\n                self.entered = target == MAN && (self.entered || self.common.target != MAN);"),
+        ("                self.operator = pair;\n            }\n            11", "                self.operator = pair;\n                self.entered = false;\n            }\n            11"),
+        ("                self.out = self.operator;\n                self.filter = None;", "                if std::mem::take(&mut self.entered) { self.operator = self.out; }\n                self.out = self.operator;\n                self.filter = None;"),
+    ]),
+    ("the pair given before the last tick", &[
+        ("    increase_close: u8,\n", "    increase_close: u8,\n    before: Pair,\n"),
+        ("increase_close: 0,\n", "increase_close: 0,\n                before: fresh,\n"),
+        ("let now = self.ticks;", "let now = self.ticks;\n        self.before = self.out;"),
+        (AO_ENTRY, "let target = words.mode(true)?;\n                self.operator = operators_pair(self.common.target, target, self.before, self.operator);"),
+    ]),
+    ("the value taken without its status", &[("        given\n", "        Pair { status: operator.status, ..given }\n")]),
+    ("the status taken without its value", &[("        given\n", "        Pair { value: operator.value, ..given }\n")]),
+    ("0x1F taken as 0x4C", &[("        given\n", "        Pair { status: if given.status == PASSIVE { 0x4C } else { given.status }, ..given }\n")]),
+    ("another Bad status taken as 0x4C", &[("        given\n", "        Pair { status: if given.status < 0x40 && given.status != PASSIVE { 0x4C } else { given.status }, ..given }\n")]),
+    ("AIN takes its last usable value", &[(AIN_ENTRY, "let target = words.mode(false)?;\n                self.operator = operators_pair(self.common.target, target, Pair { value: self.last_usable.unwrap_or(self.out.value), ..self.out }, self.operator);")]),
+    ("AO takes its setpoint", &[(AO_ENTRY, "let target = words.mode(true)?;\n                self.operator = operators_pair(self.common.target, target, Pair { value: self.inputs[usize::from(self.common.target == RCAS)].last_usable.unwrap_or(self.out.value), ..self.out }, self.operator);")]),
+    ("TOT takes a status on entry", &[("5 => self.common.target = words.mode(false)?,", "5 => {\n                let target = words.mode(false)?;\n                if target == MAN && self.common.target != MAN { self.operator_status = self.given.status; }\n                self.common.target = target;\n            }")]),
+    ("a target refused by the lock takes the pair", &[("        if self.write_locking == 0 && (block, parameter) != (0, 18) {\n", "        if self.write_locking == 0 && (block, parameter) != (0, 18) {\n            if (block, parameter) == (3, 5) { self.ao.operator = self.ao.out; }\n")]),
+    ("a target refused by its words takes the pair", &[("let target = words.mode(false)?;\n", "let target = words.mode(false).inspect_err(|_| self.operator = self.out)?;\n")]),
+    ("a target refused by the lock leaves Man", &[
+        ("    increase_close: u8,\n", "    increase_close: u8,\n    asked: u8,\n"),
+        ("increase_close: 0,\n", "increase_close: 0,\n                asked: AUTO,\n"),
+        ("        if self.write_locking == 0 && (block, parameter) != (0, 18) {\n", "        if self.write_locking == 0 && (block, parameter) != (0, 18) {\n            if (block, parameter) == (3, 5) { self.ao.asked = w1 as u8; }\n"),
+        (AO_ENTRY, "let target = words.mode(true)?;\n                self.operator = operators_pair(std::mem::replace(&mut self.asked, target), target, self.out, self.operator);"),
+    ]),
+    ("another static write takes AIN's pair", &[("17 => self.fsafe_type = words.code(2)?,", "17 => {\n                self.fsafe_type = words.code(2)?;\n                self.operator = self.out;\n            }")]),
+    ("another static write takes AO's pair", &[("24 => self.fsafe_type = words.code(2)?,", "24 => {\n                self.fsafe_type = words.code(2)?;\n                self.operator = self.out;\n            }")]),
+    ("a load takes the pair", &[("        self.ain.common.count();\n", "        self.ain.common.count();\n        self.ain.operator = self.ain.out;\n")]),
+    ("a telegram takes the pair", &[("        if status >> 6 < 2 {\n", "        self.operator = self.out;\n        if status >> 6 < 2 {\n")]),
+    ("a fault takes the pair", &[("                self.alarms = 0;\n", "                self.alarms = 0;\n                self.operator = self.out;\n")]),
+    ("Safe goes on in Man", &[("                Order::Position(self.out.value.to_bits())\n            }\n            actual", "                if self.out.status == 0x00 && self.fsafe_type == 2 { return Order::Safe; }\n                Order::Position(self.out.value.to_bits())\n            }\n            actual")]),
+    ("entering Man is not counted", &[("        if class == Class::Static {", "        if class == Class::Static && (parameter != 5 || w1 != 0x10) {")]),
+    ("entering Man empties the filter", &[(AIN_ENTRY, "let target = words.mode(false)?;\n                self.operator = operators_pair(self.common.target, target, self.out, self.operator);\n                if target == MAN { self.filter = None; }")]),
     // AIN.
     ("filter divides by PV_FTIME x 10", &[("self.pv_ftime * 10.0 + 1.0", "self.pv_ftime * 10.0")]),
     ("PV_FTIME -0 filters", &[("self.pv_ftime != 0.0", "self.pv_ftime.to_bits() != 0")]),
@@ -192,7 +249,9 @@ const SLIPS: &[Slip] = &[
     ("warm start keeps the last usable value", &[("        ain.last_usable = None;\n", "")]),
     ("warm start keeps the memory", &[("        tot.last_increment = None;\n", "")]),
     ("warm start keeps telegrams", &[("        ao.inputs = [NO_TELEGRAM; 2];\n", "")]),
-    ("warm start keeps AIN's operator", &[("        ain.operator = SET_BY_NO_ONE;\n", "")]),
+    ("warm start in Man keeps AIN's pair", &[("        ain.operator = SET_BY_NO_ONE;\n", "")]),
+    ("warm start in Man keeps AO's pair", &[("        ao.operator = SET_BY_NO_ONE;\n", "")]),
+    ("warm start in Man takes the pair", &[("        ain.operator = SET_BY_NO_ONE;\n", "        ain.operator = ain.out;\n")]),
     ("warm start keeps TOT's operator status", &[("        tot.operator_status = SET_BY_NO_ONE.status;\n", "")]),
     ("warm start drops the table", &[("        ain.filter = None;\n", "        ain.filter = None;\n        ain.table = Table::NONE;\n"), ("if !x.is_finite() {", "if !x.is_finite() || self.pairs == 0 {")]),
     ("warm start empties LIN_TYPE", &[("        ain.filter = None;\n", "        ain.filter = None;\n        ain.lin_type = 0;\n")]),

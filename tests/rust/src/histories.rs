@@ -198,6 +198,10 @@ impl Maker {
 
     fn ticks(&mut self) {
         let fault = self.random.chance(self.profile.fault);
+        self.ticks_with(fault);
+    }
+
+    fn ticks_with(&mut self, fault: bool) {
         let ain = (self.transducer_value(), self.status());
         let tot = (self.rate(), self.status());
         let times = if self.random.chance(10) { 1 + self.random.below(6) } else { 1 };
@@ -400,6 +404,9 @@ impl Maker {
             // Two of three numbers below 8 are R: the mode is wanted.
             parameter = 5;
         }
+        if parameter == 5 && self.random.chance(20) {
+            return self.through_man(block);
+        }
         let mut words = self.words(block, parameter);
         if self.random.chance(self.profile.wild / 4) {
             words.0 = self.random.pick(&FAR_ENDS);
@@ -416,6 +423,60 @@ impl Maker {
             }
         } else {
             self.write(block, parameter, words);
+        }
+    }
+
+    /// Into Man from another target, then what may come before the Man tick, and most often out again.
+    fn through_man(&mut self, block: u8) {
+        const MAN: (u32, u32) = (0x10, 0);
+        let others: &[u32] = if block == 3 { &[0x08, 0x02, 0x80] } else { &[0x08, 0x08, 0x80] };
+        let other = (self.random.pick(others), 0);
+        self.write(block, 5, other);
+        if self.random.chance(70) {
+            let fault = self.random.chance(15);
+            self.ticks_with(fault);
+        }
+        self.write(block, 5, MAN);
+        for _ in 0..self.random.below(5) {
+            match self.random.below(8) {
+                0 | 1 => {
+                    // The operator's write, or another.
+                    let (_, parameters) = PARAMETERS[usize::from(block)];
+                    let out = if block == 3 { 37 } else { 10 };
+                    let parameter = if self.random.chance(50) { out } else { self.random.pick(parameters) };
+                    let words = self.words(block, parameter);
+                    self.write(block, parameter, words);
+                }
+                2 => self.write(block, 5, MAN),
+                3 => {
+                    // Left and entered again.
+                    self.write(block, 5, other);
+                    if self.random.chance(40) {
+                        self.ticks();
+                    }
+                    self.write(block, 5, MAN);
+                }
+                4 => {
+                    // A target that is refused.
+                    let target = self.random.pick(&[MAN, other]);
+                    if self.random.chance(30) {
+                        self.write(block, 5, (target.0, 1));
+                    } else {
+                        self.write(0, 18, (0, 0));
+                        self.write(block, 5, target);
+                        self.write(0, 18, (2457, 0));
+                    }
+                }
+                5 => self.ticks_with(true),
+                6 if block == 1 => self.load(),
+                6 => self.telegram(),
+                _ if self.random.chance(30) => self.push(Call::Warm),
+                _ => self.ticks(),
+            }
+        }
+        self.ticks();
+        if self.random.chance(80) {
+            self.write(block, 5, (0x08, 0));
         }
     }
 

@@ -504,6 +504,16 @@ fn only_in_man(target: u8) -> Result<(), u8> {
     (target == MAN).then_some(()).ok_or(6)
 }
 
+/// Request 2, for AIN and AO: the operator's pair after an accepted write of the target. Where that changes it to Man
+/// from another target, it is the pair last given, as a read of OUT gives it, 0x1F too. Otherwise it stays.
+fn operators_pair(old: u8, new: u8, given: Pair, operator: Pair) -> Pair {
+    if new == MAN && old != MAN {
+        given
+    } else {
+        operator
+    }
+}
+
 impl Model {
     pub fn factory() -> Model {
         let fresh = Pair { value: 0.0, status: PASSIVE };
@@ -571,7 +581,7 @@ impl Model {
         Ok(())
     }
 
-    /// R17: what a warm start forgets.
+    /// R17: what a warm start forgets. Under target Man too the operator's pairs are the fresh ones after it.
     pub fn warm_start(&mut self) {
         let Model { ain, tot, ao, .. } = self;
         for common in [&mut ain.common, &mut tot.common, &mut ao.common] {
@@ -672,7 +682,11 @@ impl Ain {
     fn write(&mut self, parameter: u8, words: Words) -> Result<&mut Common, u8> {
         let finite_or = |end: f32| move |v: f32| v.is_finite() || v == end;
         match parameter {
-            5 => self.common.target = words.mode(false)?,
+            5 => {
+                let target = words.mode(false)?;
+                self.operator = operators_pair(self.common.target, target, self.out, self.operator);
+                self.common.target = target;
+            }
             10 => {
                 let pair = words.pair(f32::is_finite)?;
                 only_in_man(self.common.target)?;
@@ -755,7 +769,11 @@ impl Tot {
 impl Ao {
     fn write(&mut self, parameter: u8, words: Words) -> Result<&mut Common, u8> {
         match parameter {
-            5 => self.common.target = words.mode(true)?,
+            5 => {
+                let target = words.mode(true)?;
+                self.operator = operators_pair(self.common.target, target, self.out, self.operator);
+                self.common.target = target;
+            }
             11 => self.pv_scale = words.scale()?,
             23 => self.fsafe_time = words.up_to(65_535)?,
             24 => self.fsafe_type = words.code(2)?,

@@ -234,9 +234,10 @@ fn defaults() {
          read 3 1 => 0; read 3 5 => 8; read 3 6 => 0x80; read 3 11 => 0f 100f; read 3 23 => 0; read 3 24 => 1
          read 3 25 => 0f; read 3 36 => 0; read 3 37 => 0f 0x1F; read 3 38 => 0f 100f; total => total 0",
     );
-    // The operator's pairs: 0, 0x4C.
+    // The operator's pairs: 0, 0x4C. Entered on a fresh device, AIN and AO have taken theirs from OUT.
     play(
         "write 1 5 0x10 0; write 2 5 0x10 0; write 3 5 0x10 0; tick 0 50f 0x80 50f 0x80 => position 0f
+         image 15 => bytes 00 00 00 00 1F 00 00 00 00 4C 00 00 00 00 1F; warm; tick 0 50f 0x80 50f 0x80 => position 0f
          image 15 => bytes 00 00 00 00 4C 00 00 00 00 4C 00 00 00 00 4C",
     );
 }
@@ -342,10 +343,210 @@ fn modes() {
     // AO keeps its value over a warm start, the operator's pair goes.
     play(
         "write 3 5 0x10 0; write 3 37 33f 0x80; ain 0f 0x80 => position 33f; warm; write 3 5 8 0
-         ain 0f 0x80 => position 33f; read 3 37 => 33f 0x4C; write 3 5 0x10 0; ain 0f 0x80 => position 0f",
+         ain 0f 0x80 => position 33f; read 3 37 => 33f 0x4C; write 3 5 0x10 0; ain 0f 0x80 => position 33f; warm
+         ain 0f 0x80 => position 0f; read 3 37 => 0f 0x4C",
     );
     // A fault does not refuse the operator.
     play("write 1 5 0x10 0; off; write 1 10 7f 0x80 => ok; ain 0f 0x80; read 1 10 => 7f 0x80");
+}
+
+// Entering Man
+
+/// The pair last given stands, whatever its status, and what comes in does not move it.
+#[test]
+fn entering_man() {
+    // AIN from Auto: usable, with an alarm's status, fail-safe. The write itself gives nothing.
+    play(
+        "ain 50f 0x83; write 1 5 0x10 0; read 1 10 => 50f 0x83; read 1 6 => 8; ain 75f 0x40; read 1 10 => 50f 0x83
+         read 1 6 => 0x10; ain nan 0; read 1 10 => 50f 0x83",
+    );
+    play("write 1 23 40f 0; ain 50f 0x80; write 1 5 0x10 0; write 1 23 inf 0; ain 0f 0x80; read 1 10 => 50f 0x8A; read 1 7 => 0");
+    play("write 1 17 0 0; write 1 18 7f 0; ain 50f 0x80; ain 50f 0; write 1 5 0x10 0; ain 50f 0x80; read 1 10 => 7f 0x48");
+    // The latest of several ticks.
+    play("ain 25f 0x80; ain 50f 0x81; ain 75f 0x40; write 1 5 0x10 0; ain 25f 0x80; read 1 10 => 75f 0x40");
+    // AO from Auto and from RCas: OUT, neither the setpoint nor the telegram's status.
+    play(
+        "write 3 38 0f 200f; sp 50f 0xC7; ain 0f 0x80 => position 100f; write 3 5 0x10 0; read 3 37 => 100f 0x80
+         ain 0f 0x80 => position 100f; read 3 37 => 100f 0x80; read 3 6 => 0x10",
+    );
+    play(
+        "sp 50f 0x80; rcas 25f 0x80; write 3 5 2 0; ain 0f 0x80 => position 25f; write 3 5 0x10 0
+         ain 0f 0x80 => position 25f; read 3 37 => 25f 0x80",
+    );
+    // Silent, without a usable telegram, scaling failed.
+    play("sp 50f 0x80; 2 * ain 0f 0x80; write 3 5 0x10 0; ain 0f 0x80 => position 50f; read 3 37 => 50f 0x44");
+    play("ain 0f 0x80; write 3 5 0x10 0; ain 0f 0x80 => position 0f; read 3 37 => 0f 0x4C");
+    play(
+        "sp 50f 0x80; ain 0f 0x80; write 3 38 -3e38f 3e38f; sp 25f 0x80; ain 0f 0x80; write 3 5 0x10 0
+         ain 0f 0x80 => position 50f; read 3 37 => 50f 0x04",
+    );
+    // Each block for itself.
+    play(
+        "write 3 23 9 0; sp 50f 0x80; ain 25f 0x80; write 1 5 0x10 0; sp 75f 0x80; ain 50f 0x80 => position 75f
+         read 1 10 => 25f 0x80; write 1 5 8 0; write 3 5 0x10 0; ain 50f 0x81; read 1 10 => 50f 0x81; read 3 37 => 75f 0x80",
+    );
+}
+
+/// The status last given is 0x1F: in O/S by a fault or by the target, fresh, after a warm start.
+#[test]
+fn entering_man_from_out_of_service() {
+    play(
+        "ain 50f 0x80; off; write 1 5 0x10 0; ain 75f 0x80; read 1 10 => 50f 0x1F; ain 75f 0x80; read 1 10 => 50f 0x1F",
+    );
+    play("sp 50f 0x80; ain 0f 0x80; off => rest; write 3 5 0x10 0; ain 0f 0x80 => position 50f; read 3 37 => 50f 0x1F");
+    play("ain 50f 0x80; write 1 5 0x80 0; ain 75f 0x80; write 1 5 0x10 0; ain 75f 0x80; read 1 10 => 50f 0x1F");
+    play(
+        "sp 50f 0x80; ain 0f 0x80; write 3 5 0x80 0; ain 0f 0x80 => rest; write 3 5 0x10 0
+         ain 0f 0x80 => position 50f; read 3 37 => 50f 0x1F",
+    );
+    // From the target O/S without a tick in it.
+    play(
+        "sp 50f 0x80; ain 25f 0x81; write 1 5 0x80 0; write 3 5 0x80 0; write 1 5 0x10 0; write 3 5 0x10 0
+         ain 0f 0x80 => position 50f; read 1 10 => 25f 0x81; read 3 37 => 50f 0x80",
+    );
+    play("write 1 5 0x10 0; write 3 5 0x10 0; ain 50f 0x80 => position 0f; read 1 10 => 0f 0x1F; read 3 37 => 0f 0x1F");
+    play(
+        "sp 50f 0x80; ain 25f 0x80; warm; write 1 5 0x10 0; write 3 5 0x10 0; ain 75f 0x80 => position 50f
+         read 1 10 => 25f 0x1F; read 3 37 => 50f 0x1F",
+    );
+    // A usable tick after it takes 0x1F away again.
+    play("ain 50f 0x80; off; ain 75f 0x40; write 1 5 0x10 0; ain 0f 0x80; read 1 10 => 75f 0x40");
+}
+
+/// It leaves the pair and counts in ST_REV.
+#[test]
+fn man_over_man() {
+    play(
+        "ain 50f 0x80; write 1 5 0x10 0; write 1 10 70f 0x81; write 1 5 0x10 0; read 1 1 => 2; ain 0f 0x80
+         read 1 10 => 70f 0x81; off; read 1 10 => 70f 0x1F; write 1 5 0x10 0; read 1 1 => 3; ain 0f 0x80
+         read 1 10 => 70f 0x81",
+    );
+    play(
+        "sp 50f 0x80; ain 0f 0x80; write 3 5 0x10 0; off; write 3 5 0x10 0; ain 0f 0x80 => position 50f
+         read 3 37 => 50f 0x80; write 3 37 70f 0x81; write 3 5 0x10 0; ain 0f 0x80 => position 70f
+         read 3 37 => 70f 0x81; read 3 1 => 3",
+    );
+}
+
+#[test]
+fn man_left_and_entered_again() {
+    // Without a tick between, what the operator wrote was never given.
+    play(
+        "ain 50f 0x80; write 1 5 0x10 0; write 1 10 70f 0x81; write 1 5 8 0; write 1 5 0x10 0; ain 0f 0x80
+         read 1 10 => 50f 0x80; read 1 1 => 3",
+    );
+    play(
+        "sp 50f 0x80; ain 0f 0x80; write 3 5 0x10 0; write 3 37 70f 0x81; write 3 5 2 0; write 3 5 0x10 0
+         ain 0f 0x80 => position 50f; read 3 37 => 50f 0x80",
+    );
+    // With one in Man it was; with one in Auto that pair is the last.
+    play(
+        "ain 50f 0x80; write 1 5 0x10 0; write 1 10 70f 0x81; ain 0f 0x80; write 1 5 8 0; write 1 5 0x10 0; ain 0f 0x80
+         read 1 10 => 70f 0x81; write 1 5 8 0; ain 25f 0x82; write 1 5 0x10 0; ain 0f 0x80; read 1 10 => 25f 0x82",
+    );
+    play(
+        "write 3 23 9 0; sp 50f 0x80; write 3 5 0x10 0; write 3 37 70f 0x81; ain 0f 0x80 => position 70f
+         write 3 5 0x80 0; write 3 5 0x10 0; ain 0f 0x80 => position 70f; read 3 37 => 70f 0x81; write 3 5 8 0
+         ain 0f 0x80 => position 50f; write 3 5 0x10 0; ain 0f 0x80 => position 50f; read 3 37 => 50f 0x80",
+    );
+}
+
+#[test]
+fn a_refused_target_takes_no_pair() {
+    // In Man with a pair not yet given, and after a fault.
+    for refused in ["8 0", "0x10 0", "0x80 0", "0x10 1"] {
+        play(&format!(
+            "sp 50f 0x80; ain 50f 0x80; write 1 5 0x10 0; write 1 10 70f 0x81; write 3 5 0x10 0; write 3 37 75f 0x82
+             write 0 18 0 0; write 1 5 {refused} => refused 4; write 3 5 {refused} => refused 4
+             ain 0f 0x80 => position 75f; read 1 10 => 70f 0x81; read 3 37 => 75f 0x82; off
+             write 1 5 {refused} => refused 4; write 3 5 {refused} => refused 4
+             ain 0f 0x80 => position 75f; read 1 10 => 70f 0x81; read 3 37 => 75f 0x82; read 1 1 => 1; read 3 1 => 1",
+        ));
+    }
+    for refused in ["0x10 1", "0x20 0", "0 0", "0x110 0", "0x08 0x10"] {
+        play(&format!(
+            "sp 50f 0x80; ain 50f 0x80; write 1 5 0x10 0; write 1 10 70f 0x81; write 3 5 0x10 0; write 3 37 75f 0x82
+             write 1 5 {refused} => refused 5; write 3 5 {refused} => refused 5; write 1 5 2 0 => refused 5
+             ain 0f 0x80 => position 75f; read 1 10 => 70f 0x81; read 3 37 => 75f 0x82; read 1 1 => 1; read 3 1 => 1",
+        ));
+    }
+    // A refused leaving is none: Man over Man after it. A refused entry is none: the later one takes.
+    play(
+        "sp 50f 0x80; ain 50f 0x80; write 1 5 0x10 0; write 1 10 70f 0x81; write 3 5 0x10 0; write 3 37 75f 0x82
+         write 0 18 0 0; write 1 5 8 0 => refused 4; write 3 5 2 0 => refused 4; write 0 18 2457 0; write 1 5 0x10 0
+         write 3 5 0x10 0; ain 0f 0x80 => position 75f; read 1 10 => 70f 0x81; read 3 37 => 75f 0x82",
+    );
+    play(
+        "ain 50f 0x80; write 0 18 0 0; write 1 5 0x10 0 => refused 4; ain 75f 0x81; read 1 10 => 75f 0x81
+         write 0 18 2457 0; write 1 5 0x10 1 => refused 5; ain 25f 0x82; write 1 5 0x10 0; ain 0f 0x80
+         read 1 10 => 25f 0x82; read 1 1 => 1",
+    );
+}
+
+/// Between the entry and the Man tick nothing but a write of OUT moves the pair.
+#[test]
+fn the_pair_taken_stays() {
+    play(
+        "ain 50f 0x81; write 1 5 0x10 0; off; sp 25f 0x80; write 1 12 0f 200f; write 1 17 0 0; write 1 18 9f 0
+         table 0f 0f 1f 10f; write 1 13 1 0; write 2 5 0x10 0; write 3 5 0x10 0; write 1 10 nan 0 => refused 5
+         write 1 10 7f 256 => refused 5; read 1 10 => 50f 0x1F; ain 75f 0; read 1 10 => 50f 0x81; read 1 1 => 6",
+    );
+    play(
+        "sp 50f 0x80; ain 0f 0x80; write 3 5 0x10 0; off => rest; sp 25f 0x80; rcas 75f 0xA0; write 3 38 0f 200f
+         write 3 36 1 0; write 3 24 2 0; write 3 25 9f 0; write 1 5 0x10 0; image 15; read 3 37 => 50f 0x1F
+         ain 0f 0x80 => position 50f; read 3 37 => 50f 0x80; off; ain 0f 0x80 => position 50f; read 3 37 => 50f 0x80",
+    );
+    // Written before the tick, the operator's own pair is given.
+    play("ain 50f 0x80; write 1 5 0x10 0; write 1 10 7f 0x83; ain 0f 0x80; read 1 10 => 7f 0x83");
+    play("sp 50f 0x80; ain 0f 0x80; write 3 5 0x10 0; write 3 37 7f 0x83; ain 0f 0x80 => position 7f; read 3 37 => 7f 0x83");
+}
+
+/// Fail-safe by type 2: the drive leaves Safe for the value that OUT kept.
+#[test]
+fn from_safe_to_man() {
+    play(
+        "sp 50f 0x80; ain 0f 0x80 => position 50f; write 3 24 2 0; ain 0f 0x80 => safe; read 3 37 => 50f 0
+         write 3 5 0x10 0; ain 0f 0x80 => position 50f; read 3 37 => 50f 0; ain 0f 0x80 => position 50f",
+    );
+}
+
+#[test]
+fn tot_takes_nothing() {
+    play(
+        "tot 1f 0x80; read 2 10 => 0.1f 0x80; write 2 5 0x10 0; read 2 1 => 1; tot 1f 0x80; read 2 10 => 0.1f 0x4C
+         total => total 100; write 2 10 5f 0xA7; write 2 5 8 0; tot 1f 0x81; read 2 10 => 5.1f 0x81; write 2 5 0x10 0
+         tot 1f 0x80; read 2 10 => 5.1f 0xA7; write 2 5 8 0; off; write 2 5 0x10 0; tot 0f 0x80; read 2 10 => 5.1f 0xA7",
+    );
+}
+
+/// The fresh pair, also where the target is Man.
+#[test]
+fn a_warm_start_in_man() {
+    play(
+        "ain 50f 0x80; write 1 5 0x10 0; ain 0f 0x80; warm; read 1 5 => 0x10; read 1 10 => 50f 0x1F; ain 75f 0x80
+         read 1 10 => 0f 0x4C",
+    );
+    play("sp 50f 0x80; ain 0f 0x80; write 3 5 0x10 0; warm; ain 0f 0x80 => position 0f; read 3 37 => 0f 0x4C");
+    // Man over Man after it takes nothing; an entry takes the value kept.
+    play("ain 50f 0x80; write 1 5 0x10 0; warm; write 1 5 0x10 0; ain 75f 0x80; read 1 10 => 0f 0x4C");
+    play(
+        "sp 50f 0x80; ain 0f 0x80; write 3 5 0x10 0; warm; write 3 5 8 0; write 3 5 0x10 0
+         ain 0f 0x80 => position 50f; read 3 37 => 50f 0x1F",
+    );
+}
+
+#[test]
+fn alarms_on_the_pair_taken() {
+    play(
+        "write 1 23 80f 0; ain 50f 0x80; write 1 5 0x10 0; write 1 23 40f 0; read 1 7 => 0; ain 0f 0x80; read 1 7 => 2
+         read 1 10 => 50f 0x80; write 1 23 50.5f 0; ain 99f 0x80; read 1 7 => 2; write 1 23 51f 0; ain 99f 0x80
+         read 1 7 => 0",
+    );
+    // After a fault, on the value under 0x1F.
+    play(
+        "write 1 25 60f 0; ain 50f 0x80; read 1 10 => 50f 0x89; off; read 1 7 => 0; write 1 5 0x10 0; read 1 7 => 0
+         ain 99f 0x80; read 1 7 => 4; read 1 10 => 50f 0x1F",
+    );
 }
 
 // AIN
@@ -365,6 +566,8 @@ fn filter() {
     // Emptied by Man and O/S.
     play_plain("write 1 16 0.1f 0; ain 10f 0x80; write 1 5 0x10 0; ain 0f 0x80; write 1 5 8 0; ain 20f 0x80; read 1 10 => 20f 0x80");
     play_plain("write 1 16 0.1f 0; ain 10f 0x80; off; ain 20f 0x80; read 1 10 => 20f 0x80");
+    // Not by Man entered and left again between two ticks.
+    play_plain("write 1 16 0.1f 0; ain 10f 0x80; write 1 5 0x10 0; write 1 5 8 0; ain 20f 0x80; read 1 10 => 15f 0x80");
     // Left as it was when a scale changes.
     play_plain("ain 10f 0x80; write 1 16 0.1f 0; write 1 12 0f 2f; ain 10f 0x80; read 1 10 => 15f 0x80");
 }
@@ -394,8 +597,8 @@ fn fail_safe_types() {
     // A Man value is no Auto value; without one 0, not the old OUT.
     play(
         "write 1 5 0x10 0; write 1 10 7f 0x80; ain 0f 0x80; write 1 5 8 0; ain 0f 0; read 1 10 => 0f 0x4C
-         ain 50f 0x40; read 1 10 => 50f 0x40; write 1 5 0x10 0; ain 0f 0x80; read 1 10 => 7f 0x80; off
-         write 1 5 8 0; ain 0f 0; read 1 10 => 50f 0x44",
+         ain 50f 0x40; read 1 10 => 50f 0x40; write 1 5 0x10 0; write 1 10 7f 0x80; ain 0f 0x80
+         read 1 10 => 7f 0x80; off; write 1 5 8 0; ain 0f 0; read 1 10 => 50f 0x44",
     );
     play("write 1 17 0 0; write 1 18 7f 0; ain 50f 0x80; ain 0f 0; read 1 10 => 7f 0x48; write 1 17 1 0; ain 0f 0; read 1 10 => 50f 0x44");
 }
