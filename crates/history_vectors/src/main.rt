@@ -1,4 +1,5 @@
-// Lists of calls as bytes, replayed from the factory device, and what reads give after them, worked by hand from document 01.
+// Lists of calls as bytes, replayed from the factory device, and what reads give after them, worked by hand from document 01 and from
+// document 02, requests 1 and 2.
 // A line each: the list's name and `passed`, or what differs from the paper. What it would catch: a call read at the
 // wrong place or with its words in another order, a refused call that counts, a malformed list of which a part counts.
 use ao::Order;
@@ -273,7 +274,7 @@ fn point_b() {
     end(reads(g, r, 3, 37, 0, 0x4c));
 }
 
-// Ground 6: the target is Auto. The pair is not kept, so a Man tick gives 0, 4C.
+// Ground 6: the target is Auto. The pair is not kept, so a Man tick gives what was last given, 0 with 1F.
 fn write_refused() {
     let mut list = [0u8; 128];
     let at = write(&mut list, 0, 1, 10, 0x4120_0000, 0x80);
@@ -284,7 +285,7 @@ fn write_refused() {
     let at = tick(&mut list, at, 0x4248_0000);
     let r = replayed(b"a refused write, then Man", &list, at);
     let g = formed(r);
-    let g = reads(g, r, 1, 10, 0, 0x4c);
+    let g = reads(g, r, 1, 10, 0, 0x1f);
     end(reads(g, r, 1, 1, 1, 0));
 }
 
@@ -319,6 +320,89 @@ fn operator_of_others() {
     let g = reads(g, r, 2, 10, 0x4148_0000, 0x84);
     let g = reads(g, r, 3, 1, 1, 0);
     end(reads(g, r, 2, 1, 1, 0));
+}
+
+// Into Man at 50: it stands while the input is 25. Out and in again without a tick: still 50, not the 70 that was written.
+// Man over Man leaves what was written, and counts: three changes of the target and one write of Man over Man are 4.
+fn man_entered() {
+    let mut list = [0u8; 192];
+    let at = tick(&mut list, 0, 0x4248_0000);
+    let at = write(&mut list, at, 1, 5, 0x10, 0);
+    let at = tick(&mut list, at, 0x41c8_0000);
+    let r = replayed(b"into Man", &list, at);
+    let g = formed(r);
+    let g = reads(g, r, 1, 6, 0x10, 0);
+    end(reads(g, r, 1, 10, 0x4248_0000, 0x80));
+    let at = write(&mut list, at, 1, 10, 0x428c_0000, 0x81);
+    let at = write(&mut list, at, 1, 5, 0x08, 0);
+    let at = write(&mut list, at, 1, 5, 0x10, 0);
+    let again = tick(&mut list, at, 0x41c8_0000);
+    let r = replayed(b"out of Man and in again", &list, again);
+    let g = formed(r);
+    end(reads(g, r, 1, 10, 0x4248_0000, 0x80));
+    let at = write(&mut list, at, 1, 10, 0x428c_0000, 0x81);
+    let at = write(&mut list, at, 1, 5, 0x10, 0);
+    let at = tick(&mut list, at, 0x41c8_0000);
+    let r = replayed(b"Man over Man", &list, at);
+    let g = formed(r);
+    let g = reads(g, r, 1, 10, 0x428c_0000, 0x81);
+    end(reads(g, r, 1, 1, 4, 0));
+}
+
+// After a tick with the fault flag what was last given is 50 with 1F. A warm start leaves the fresh pair, 0 with 4C.
+fn man_entered_held() {
+    let mut list = [0u8; 128];
+    let at = tick(&mut list, 0, 0x4248_0000);
+    let at = tick_with(&mut list, at, 1, 0x41c8_0000, 0x80, 0, 0x80);
+    let at = write(&mut list, at, 1, 5, 0x10, 0);
+    let at = tick(&mut list, at, 0x41c8_0000);
+    let r = replayed(b"into Man after a fault", &list, at);
+    let g = formed(r);
+    end(reads(g, r, 1, 10, 0x4248_0000, 0x1f));
+    let at = warm_start(&mut list, at);
+    let at = tick(&mut list, at, 0x41c8_0000);
+    let r = replayed(b"a warm start in Man", &list, at);
+    let g = formed(r);
+    end(reads(g, r, 1, 10, 0, 0x4c));
+}
+
+// AO at 50 falls silent: under FSAFE_TYPE 2 it is Safe, 50 with 00. Man orders Position 50, still with 00. TOT takes nothing: 0.1, 4C.
+fn man_entered_by_others() {
+    let mut list = [0u8; 192];
+    let at = write(&mut list, 0, 3, 24, 2, 0);
+    let at = telegram(&mut list, at, 0, 0, 5, b"\x42\x48\x00\x00\x80");
+    let at = tick_rate(&mut list, at, 0x3f80_0000);
+    let at = write(&mut list, at, 2, 5, 0x10, 0);
+    let at = tick(&mut list, at, 0);
+    let r = replayed(b"Safe", &list, at);
+    let g = formed(r);
+    let g = reads(g, r, 2, 10, 0x3dcc_cccd, 0x4c);
+    end(reads(g, r, 3, 37, 0x4248_0000, 0x00));
+    let at = write(&mut list, at, 3, 5, 0x10, 0);
+    let none = Pair {
+        bits: 0,
+        status: 0x80,
+    };
+    let order = history::order_after(first(&list, at), false, none, none);
+    ordered(b"the order on entering Man from Safe", order, 0x4248_0000);
+    let at = tick(&mut list, at, 0);
+    let r = replayed(b"into Man from Safe", &list, at);
+    let g = formed(r);
+    end(reads(g, r, 3, 37, 0x4248_0000, 0x00));
+}
+
+// Locked, a write of Man over Man is refused and takes nothing: 70 with 81 as written, and not the 0 last given.
+fn man_refused() {
+    let mut list = [0u8; 128];
+    let at = write(&mut list, 0, 1, 5, 0x10, 0);
+    let at = write(&mut list, at, 1, 10, 0x428c_0000, 0x81);
+    let at = write(&mut list, at, 0, 18, 0, 0);
+    let at = write(&mut list, at, 1, 5, 0x10, 0);
+    let at = tick(&mut list, at, 0x41c8_0000);
+    let r = replayed(b"a refused write of Man", &list, at);
+    let g = formed(r);
+    let g = reads(g, r, 1, 1, 1, 0);
+    end(reads(g, r, 1, 10, 0x428c_0000, 0x81));
 }
 
 // 0, 18 := 0 is accepted, the next write meets ground 4.
@@ -729,6 +813,10 @@ fn main() {
     write_refused();
     write_accepted();
     operator_of_others();
+    man_entered();
+    man_entered_held();
+    man_entered_by_others();
+    man_refused();
     locked();
     setpoint();
     remote();
