@@ -65,6 +65,11 @@ def tick_line(value, status, rate=0.0, rate_status=GOOD):
     return b"tick 0 0x%08X 0x%02X 0x%08X 0x%02X" % (fed_bits(value), status & 0xFF, fed_bits(rate), rate_status & 0xFF)
 
 
+def telegram_line(input_, value, status=GOOD):
+    """A telegram to a setpoint input."""
+    return "telegram %d %s 0x%02X" % (input_, " ".join("0x%02X" % byte for byte in struct.pack(">f", value)), status)
+
+
 def fed_bits(value):
     return NO_NUMBER if value != value else single(value)
 
