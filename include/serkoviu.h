@@ -241,7 +241,8 @@ typedef struct serkoviu_alarms {
     bool lo_lo;
 } serkoviu_alarms;
 
-/* What AIN's ticks change, and the operator's pair. */
+/* What AIN's ticks change, and the operator's pair, which Man ticks give: OUT as last given when TARGET_MODE became
+ * SERKOVIU_MODE_MAN, then what is written to OUT; after a start 0 with SERKOVIU_STATUS_UNCERTAIN_INITIAL. */
 typedef struct serkoviu_ain_state {
     serkoviu_pair out;
     uint32_t mode;
@@ -300,7 +301,7 @@ typedef struct serkoviu_ao_input {
     bool ifs;
 } serkoviu_ao_input;
 
-/* What AO's ticks and telegrams change, and the operator's pair. */
+/* What AO's ticks and telegrams change, and the operator's pair, which is as AIN's. */
 typedef struct serkoviu_ao_state {
     serkoviu_pair out;
     uint32_t mode;
@@ -360,7 +361,9 @@ serkoviu_order serkoviu_tick(serkoviu_device *device, bool fault, serkoviu_pair 
 uint8_t serkoviu_telegram(serkoviu_device *device, uint8_t input, const uint8_t *bytes, size_t length);
 
 /* Writes a parameter; floats are given by their bits, a one-word parameter has second word 0. Refused:
- * SERKOVIU_NO_SUCH_BLOCK to SERKOVIU_NOT_MAN, tested in the order of their numbers. */
+ * SERKOVIU_NO_SUCH_BLOCK to SERKOVIU_NOT_MAN, tested in the order of their numbers. A write that changes TARGET_MODE of
+ * AIN or AO to SERKOVIU_MODE_MAN also takes OUT, value and status as last given, for the operator's pair, so that OUT
+ * stands in Man; where TARGET_MODE is SERKOVIU_MODE_MAN already, the pair stays. */
 uint8_t serkoviu_write(serkoviu_device *device, uint8_t block, uint8_t parameter, uint32_t first, uint32_t second);
 
 /* Loads AIN's linearisation table, SERKOVIU_TABLE_LEAST_PAIRS to SERKOVIU_TABLE_MOST_PAIRS pairs of

@@ -96,8 +96,8 @@ static void modes(void)
         }
     }
 
-    /* O/S keeps the value and rests; Man gives the operator's pair, at first 0 with its own status; Auto and RCas follow
-     * an input each. */
+    /* O/S keeps the value and rests; Man gives the operator's pair, at first what was last given; Auto and RCas follow an
+     * input each. */
     serkoviu_device d = serkoviu_factory();
     CHECK(telegram(&d, SERKOVIU_SP, 25.0f, SERKOVIU_QUALITY_GOOD) == SERKOVIU_ACCEPTED);
     CHECK(telegram(&d, SERKOVIU_RCAS_IN, 75.0f, SERKOVIU_QUALITY_GOOD_CASCADE) == SERKOVIU_ACCEPTED);
@@ -109,9 +109,61 @@ static void modes(void)
     serkoviu_device out = with(by_sp, SERKOVIU_AO, SERKOVIU_AO_TARGET_MODE, SERKOVIU_MODE_OS);
     CHECK(good_tick(&out).kind == SERKOVIU_REST && ao_is(&out, 25.0f, SERKOVIU_STATUS_BAD_OUT_OF_SERVICE));
     serkoviu_device man = with(by_sp, SERKOVIU_AO, SERKOVIU_AO_TARGET_MODE, SERKOVIU_MODE_MAN);
-    CHECK(positioned(good_tick(&man), 0.0f) && ao_is(&man, 0.0f, SERKOVIU_STATUS_UNCERTAIN_INITIAL));
+    CHECK(positioned(good_tick(&man), 25.0f) && ao_is(&man, 25.0f, SERKOVIU_STATUS_GOOD));
     CHECK(serkoviu_write(&man, SERKOVIU_AO, SERKOVIU_AO_OUT, bits_of(12.0f), 0x83) == SERKOVIU_ACCEPTED);
     CHECK(positioned(good_tick(&man), 12.0f) && ao_is(&man, 12.0f, 0x83));
+}
+
+/* A device after a tick with AO in another mode than Man, then after one with AO in Man. */
+static serkoviu_device man_after(serkoviu_device device, uint32_t mode, uint8_t kind, float value, uint32_t status)
+{
+    device = with(device, SERKOVIU_AO, SERKOVIU_AO_TARGET_MODE, mode);
+    CHECK(good_tick(&device).kind == kind && ao_is(&device, value, status));
+    device = with(device, SERKOVIU_AO, SERKOVIU_AO_TARGET_MODE, SERKOVIU_MODE_MAN);
+    CHECK(positioned(good_tick(&device), value) && ao_is(&device, value, status));
+    return device;
+}
+
+static void entering_man(void)
+{
+    /* What was last given stands, from every other mode: 0x1F too, and out of Safe the old OUT with 0x00. */
+    serkoviu_device d = with(serkoviu_factory(), SERKOVIU_AO, SERKOVIU_AO_FSAFE_TIME, 1);
+    CHECK(telegram(&d, SERKOVIU_SP, 25.0f, SERKOVIU_STATUS_GOOD) == SERKOVIU_ACCEPTED);
+    CHECK(telegram(&d, SERKOVIU_RCAS_IN, 75.0f, SERKOVIU_STATUS_GOOD) == SERKOVIU_ACCEPTED);
+    CHECK(positioned(good_tick(&d), 25.0f));
+    man_after(d, SERKOVIU_MODE_RCAS, SERKOVIU_POSITION, 75.0f, SERKOVIU_STATUS_GOOD);
+    man_after(d, SERKOVIU_MODE_OS, SERKOVIU_REST, 25.0f, SERKOVIU_STATUS_BAD_OUT_OF_SERVICE);
+    serkoviu_device safe = with(d, SERKOVIU_AO, SERKOVIU_AO_FSAFE_TYPE, SERKOVIU_FSAFE_TYPE_SAFE);
+    safe = with(safe, SERKOVIU_AO, SERKOVIU_AO_FSAFE_TIME, 0);
+    man_after(safe, SERKOVIU_MODE_AUTO, SERKOVIU_SAFE, 25.0f, SERKOVIU_STATUS_BAD_NON_SPECIFIC);
+    serkoviu_device fresh = with(serkoviu_factory(), SERKOVIU_AO, SERKOVIU_AO_TARGET_MODE, SERKOVIU_MODE_MAN);
+    CHECK(positioned(good_tick(&fresh), 0.0f) && ao_is(&fresh, 0.0f, SERKOVIU_STATUS_BAD_OUT_OF_SERVICE));
+
+    /* Man over Man leaves the pair and counts in ST_REV: the fourth static write, FSAFE_TIME being the first. */
+    serkoviu_device man = man_after(d, SERKOVIU_MODE_AUTO, SERKOVIU_POSITION, 25.0f, SERKOVIU_STATUS_GOOD);
+    CHECK(serkoviu_write(&man, SERKOVIU_AO, SERKOVIU_AO_OUT, bits_of(12.0f), 0x83) == SERKOVIU_ACCEPTED);
+    man = with(man, SERKOVIU_AO, SERKOVIU_AO_TARGET_MODE, SERKOVIU_MODE_MAN);
+    CHECK(positioned(good_tick(&man), 12.0f) && ao_is(&man, 12.0f, 0x83));
+    CHECK(reads(&man, SERKOVIU_AO, SERKOVIU_AO_ST_REV, 4, 0));
+
+    /* Left and entered again without a tick: what was written meanwhile was never given. */
+    CHECK(serkoviu_write(&man, SERKOVIU_AO, SERKOVIU_AO_OUT, bits_of(70.0f), 0x81) == SERKOVIU_ACCEPTED);
+    man = with(man, SERKOVIU_AO, SERKOVIU_AO_TARGET_MODE, SERKOVIU_MODE_AUTO);
+    man = with(man, SERKOVIU_AO, SERKOVIU_AO_TARGET_MODE, SERKOVIU_MODE_MAN);
+    CHECK(positioned(good_tick(&man), 12.0f) && ao_is(&man, 12.0f, 0x83));
+
+    /* AIN stands too. TOT has its total and the operator's status of before, here the fresh one. */
+    man = with(man, SERKOVIU_AIN, SERKOVIU_AIN_TARGET_MODE, SERKOVIU_MODE_MAN);
+    man = with(man, SERKOVIU_TOT, SERKOVIU_TOT_TARGET_MODE, SERKOVIU_MODE_MAN);
+    float total = (float)serkoviu_total(&man) / 1000.0f;
+    tick(&man, 10.0f, SERKOVIU_STATUS_GOOD, 1.0f, SERKOVIU_STATUS_GOOD);
+    CHECK(ain_is(&man, 50.0f, SERKOVIU_STATUS_GOOD) && tot_is(&man, total, SERKOVIU_STATUS_UNCERTAIN_INITIAL));
+
+    /* A warm start leaves the fresh pairs, also in Man. */
+    CHECK(serkoviu_warm_start(&man) == SERKOVIU_ACCEPTED);
+    CHECK(ain_is(&man, 50.0f, SERKOVIU_STATUS_BAD_OUT_OF_SERVICE) && ao_is(&man, 12.0f, SERKOVIU_STATUS_BAD_OUT_OF_SERVICE));
+    CHECK(positioned(good_tick(&man), 0.0f) && ao_is(&man, 0.0f, SERKOVIU_STATUS_UNCERTAIN_INITIAL));
+    CHECK(ain_is(&man, 0.0f, SERKOVIU_STATUS_UNCERTAIN_INITIAL));
 }
 
 static void ain(void)
@@ -348,6 +400,7 @@ static void packing(void)
 int main(void)
 {
     modes();
+    entering_man();
     ain();
     table();
     tot();
