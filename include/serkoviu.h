@@ -31,8 +31,9 @@
 extern "C" {
 #endif
 
-/* Version of this header: major, minor and patch in a byte each. serkoviu_version gives that of the archive. */
-#define SERKOVIU_VERSION 0x00010100
+/* Version of this header: major, minor and patch in a byte each; each request that landed raised it. serkoviu_version gives
+ * that of the archive. */
+#define SERKOVIU_VERSION 0x00010200
 /* The form of a packed device; it stands in its first four bytes. */
 #define SERKOVIU_LAYOUT_VERSION 2
 

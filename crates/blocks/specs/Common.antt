@@ -35,7 +35,7 @@ heldOut out = record { bits = out .bits; status = 0x1f }
 abbrev pub freshOperator : Pair
 freshOperator = record { bits = 0; status = 0x4c }
 
--- Q2.1: the operator's pair after an accepted write of the target: where that changes it to Man from another target, what was last given. Q2.2: otherwise,
+-- Q2.4: the operator's pair after an accepted write of the target: where that changes it to Man from another target, what was last given. Q2.5: otherwise,
 -- Man over Man too, the pair stays. Said over any type A of pair: nothing here depends on the kind of value
 unfoldable pub operatorAfter : {A : Type 0} → ℕ → ℕ → A → A → A
 operatorAfter old new given operator = cond (eqb new man && not (eqb old man)) given operator

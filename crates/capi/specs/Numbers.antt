@@ -16,9 +16,9 @@ use Rattle.capi.specs.declared.OrderNumbers.{OrderNumbers}
 use Rattle.capi.specs.declared.AnsweredNumbers.{AnsweredNumbers}
 use Rattle.capi.specs.declared.ReadingNumbers.{ReadingNumbers}
 
--- 1.1.0: what a header and an archive that belong together have
+-- 1.2.0: what a header and an archive that belong together have
 abbrev pub version : ℕ
-version = 0x010100
+version = 0x010200
 
 -- C4: the paper leaves the numbers of the kinds free; from 0 in its order
 abbrev pub orderNumbers : Order → OrderNumbers

@@ -67,7 +67,7 @@ fn order_numbers(order: ao::Order) -> OrderNumbers
 pub extern "C" fn serkoviu_version() -> u32
     ensures { λ r. ⌜ r ≡ version ⌝ }
 {
-    0x01_01_00
+    0x01_02_00
 }
 
 #[no_mangle]

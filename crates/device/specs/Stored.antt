@@ -66,7 +66,7 @@ aoSettings s number a b = record {
 unfoldable pub revAfter : Bool → ℕ → ℕ
 revAfter counted rev = cond counted ((rev + 1) % 65536) rev
 
--- P15: the operator's pair of AIN or AO after an accepted write: one of OUT, whose number goes before, brings it. Q2.1, Q2.2: one of the target makes it
+-- P15: the operator's pair of AIN or AO after an accepted write: one of OUT, whose number goes before, brings it. Q2.4, Q2.5: one of the target makes it
 -- the pair last given where it enters Man
 unfoldable pub operatorBy : ℕ → ℕ → ℕ → ℕ → ℕ → Pair → Pair → Pair
 operatorBy output number a b target given operator =

@@ -45,7 +45,7 @@ abbrev pub NoTickNoStart : History Event → Event → Type 0
 NoTickNoStart h e = (isTick e ≡ false) × (isStart e ≡ false)
 
 module _ (block : ℕ) (analog : Analog block) where
-  -- Q2.1: a write that changes the target to Man hands what was last given to the operator
+  -- Q2.4: a write that changes the target to Man hands what was last given to the operator
   entry : (h : History Event) (b : ℕ) → eqb (code h block 5) man ≡ false → handed block h (wrote block 5 man b) ≡ some (lastOut block h)
   entry h b other = go analog
     where
@@ -73,7 +73,7 @@ module _ (block : ℕ) (analog : Analog block) where
       go (inl e) = subst Gives (sym e) (λ m. rw m)
       go (inr e) = subst Gives (sym e) (λ m. rw m)
 
-  -- Q2.1, no jump: with nothing written between, a Man tick after the entry gives the value and status last given before it
+  -- Q2.4, no jump: with nothing written between, a Man tick after the entry gives the value and status last given before it
   pub no-jump : (h h′ : History Event) (b : ℕ) → eqb (code h block 5) man ≡ false → From (HandsNothing block) (h ▷ wrote block 5 man b) h′
       → (fault : Bool) (ain tot : Pair) (ainOut aoOut : Words) (answer : Order) → modeAt h′ fault block ≡ man
       → given block (h′ ▷ ticked fault ain tot ainOut aoOut answer) ≡ lastOut block h
@@ -92,12 +92,12 @@ module _ (block : ℕ) (analog : Analog block) where
       go (loaded bytes) c = refl
       go warmed c = absurd (true≢false (c .1))
 
-  -- Q2.1: whatever was written, OUT and other targets too, an entry without a tick between takes what was last given
+  -- Q2.4: whatever was written, OUT and other targets too, an entry without a tick between takes what was last given
   pub entered-again : (h h′ : History Event) (b : ℕ) → From NoTickNoStart h h′ → eqb (code h′ block 5) man ≡ false
       → operator block (h′ ▷ wrote block 5 man b) ≡ lastOut block h
   entered-again h h′ b f other = entered h′ (h′ ▷ wrote block 5 man b) b other here ∙ last-still h h′ f
 
--- Q2.1, no jump of the valve: the Man tick orders it to stay where it was
+-- Q2.4, no jump of the valve: the Man tick orders it to stay where it was
 pub no-move : (h h′ : History Event) (b : ℕ) → eqb (code h 3 5) man ≡ false → From (HandsNothing 3) (h ▷ wrote 3 5 man b) h′
     → (fault : Bool) → modeAt h′ fault 3 ≡ man → order h′ fault ≡ Position (floatOf (lastOut 3 h .bits))
 unfolding order aoGives
@@ -109,7 +109,7 @@ no-move h h′ b other f fault m = rw m (ap (λ (p : Pair). Position (floatOf (p
 abbrev pub outOf : ℕ → ℕ
 outOf block = cond (eqb block 3) 37 10
 
--- Q2.1, no jump: where a write changes the target of AIN or AO to Man from another, a tick without the fault flag then reads as OUT did before both
+-- Q2.4, no jump: where a write changes the target of AIN or AO to Man from another, a tick without the fault flag then reads as OUT did before both
 pub man-stands : (d : Device) (b : ℕ) (x y : Pair) (block : ℕ) → T (eqb block 1 || eqb block 3) → eqb (targetIn (standingOf d) block) man ≡ false
     → writeOf d block 5 man b .answer ≡ Accepted → readOf (tickOf (writeOf d block 5 man b .device) false x y .device) block (outOf block) ≡ readOf d block (outOf block)
 unfolding readOf wordsOf ainWords aoWords entryOf entryIn ain ao targetIn

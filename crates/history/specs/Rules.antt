@@ -315,11 +315,11 @@ lastOut block =
 unfoldable pub oldOut : ℕ → History Event → ℕ
 oldOut block h = lastOut block h .bits
 
--- Q2.1: AIN's or AO's target, another than Man, is changed to Man; Q2.2: over Man nothing is changed
+-- Q2.4: AIN's or AO's target, another than Man, is changed to Man; Q2.5: over Man nothing is changed
 abbrev pub entersMan : ℕ → ℕ → ℕ → Bool
 entersMan block before after = not (eqb block 2) && not (eqb before man) && eqb after man
 
--- P15: the pair that an event makes the operator's: the words of a write of OUT or TOTAL (10, in AO 37); Q2.1: at a write of the target that enters Man what
+-- P15: the pair that an event makes the operator's: the words of a write of OUT or TOTAL (10, in AO 37); Q2.4: at a write of the target that enters Man what
 -- was last given before it
 abbrev pub handed : ℕ → History Event → Event → Option Pair
 handed block h (ticked fault ain tot ainOut aoOut order) = none
@@ -331,7 +331,7 @@ handed block h (wrote block′ number a b) =
 handed block h (loaded bytes) = none
 handed block h warmed = none
 
--- P15, R17, Q2.3: the operator's pair is the latest of these since start, whichever of the two it was, before one 0 with 0x4C, whatever the target is; of
+-- P15, R17, Q2.6: the operator's pair is the latest of these since start, whichever of the two it was, before one 0 with 0x4C, whatever the target is; of
 -- TOTAL's only the status is used
 unfoldable pub operator : ℕ → History Event → Pair
 operator block h = orElse (pair 0 0x4c) (latest (handed block) isStart h)
