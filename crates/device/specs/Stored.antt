@@ -66,11 +66,14 @@ aoSettings s number a b = record {
 unfoldable pub revAfter : Bool → ℕ → ℕ
 revAfter counted rev = cond counted ((rev + 1) % 65536) rev
 
--- P15: the operator's pair of AIN or AO after an accepted write: one of OUT, whose number goes before, brings it. Q2.4, Q2.5: one of the target makes it
--- the pair last given where it enters Man
+-- Q2.4, Q2.5: the operator's pair of AIN or AO after an accepted write of another parameter than OUT: one of the target makes it the pair last given where
+-- it enters Man
+unfoldable pub enteredBy : ℕ → ℕ → ℕ → Pair → Pair → Pair
+enteredBy number a target given operator = cond (eqb number 5) (operatorAfter target a given operator) operator
+
+-- P15: and after any: one of OUT, whose number goes before, brings it
 unfoldable pub operatorBy : ℕ → ℕ → ℕ → ℕ → ℕ → Pair → Pair → Pair
-operatorBy output number a b target given operator =
-    cond (eqb number output) (pairOf a b) (cond (eqb number 5) (operatorAfter target a given operator) operator)
+operatorBy output number a b target given operator = cond (eqb number output) (pairOf a b) (enteredBy number a target given operator)
 
 -- P15: a block after an accepted write; one of TOTAL sets the total and keeps its status for Man
 unfoldable pub ainWritten : AinBlock → ℕ → ℕ → ℕ → AinBlock

@@ -6,7 +6,7 @@ ghost use denote.Ref.{ptr};
 ghost use Rattle.wire.specs.Image.{imageAnswer, imageBytes, partOf, partPlace};
 ghost use Rattle.parameters.specs.Table.{defaultOf};
 ghost use Rattle.device.specs.Factory.{ainBy, totBy, aoBy, factoryDevice};
-ghost use Rattle.device.specs.Stored.{ainSettings, totSettings, aoSettings, revAfter, operatorBy, ainWritten, totWritten, aoWritten, storedIn};
+ghost use Rattle.device.specs.Stored.{ainSettings, totSettings, aoSettings, revAfter, pairOf, enteredBy, ainWritten, totWritten, aoWritten, storedIn};
 ghost use Rattle.device.specs.Read.{code, float, ends, given, alarmByte, ainWords, totWords, aoWords, wordsOf, readOf};
 ghost use Rattle.device.specs.Calls.{standingOf, writeOf, tickOf, telegramOf, tabledBy, loadOf, warmStarted};
 use ain::Alarms;
@@ -234,31 +234,24 @@ fn status_of(b: u32) -> u8
     (b % 256) as u8
 }
 
-// The operator's pair after a write, by the number of the block's OUT.
-fn operator_by(
-    output: u8,
-    parameter: u8,
-    a: u32,
-    b: u32,
-    target: u32,
-    given: Pair,
-    operator: Pair,
-) -> Pair
-    ensures { λ r. ⌜ r ≡ operatorBy output parameter a b target given operator ⌝ }
+// The operator's pair of AIN or AO after a write of another parameter than OUT.
+fn entered(parameter: u8, a: u32, target: u32, given: Pair, operator: Pair) -> Pair
+    ensures { λ r. ⌜ r ≡ enteredBy parameter a target given operator ⌝ }
 {
-    let written = parameter == output;
-    let targeted = parameter == 5;
-    if written {
-        let status = status_of(b);
-        return Pair {
-            bits: a,
-            status: status,
-        };
+    match parameter {
+        5 => blocks::operator_after(target, a, given, operator),
+        _ => operator,
     }
-    if targeted {
-        return blocks::operator_after(target, a, given, operator);
+}
+
+fn pair_of(a: u32, b: u32) -> Pair
+    ensures { λ r. ⌜ r ≡ pairOf a b ⌝ }
+{
+    let status = status_of(b);
+    Pair {
+        bits: a,
+        status: status,
     }
-    operator
 }
 
 fn ain_written(block: AinBlock, parameter: u8, a: u32, b: u32) -> AinBlock
@@ -268,20 +261,18 @@ fn ain_written(block: AinBlock, parameter: u8, a: u32, b: u32) -> AinBlock
     let rev = rev_after(counted, block.st_rev);
     let settings = ain_settings(block.settings, parameter, a, b);
     let old = block.state;
-    let operator = operator_by(
-        10,
-        parameter,
-        a,
-        b,
-        block.settings.target,
-        old.out,
-        old.operator,
-    );
-    let state = ain::operated(old, operator);
+    let written = pair_of(a, b);
+    let taken = entered(parameter, a, block.settings.target, old.out, old.operator);
+    let with_written = ain::operated(old, written);
+    let with_taken = ain::operated(old, taken);
     let mut next = block;
     next.settings = settings;
-    next.state = state;
+    next.state = with_taken;
     next.st_rev = rev;
+    match parameter {
+        10 => next.state = with_written,
+        _ => {}
+    }
     next
 }
 
@@ -315,20 +306,18 @@ fn ao_written(block: AoBlock, parameter: u8, a: u32, b: u32) -> AoBlock
     let rev = rev_after(counted, block.st_rev);
     let settings = ao_settings(block.settings, parameter, a, b);
     let old = block.state;
-    let operator = operator_by(
-        37,
-        parameter,
-        a,
-        b,
-        block.settings.target,
-        old.out,
-        old.operator,
-    );
-    let state = ao::operated(old, operator);
+    let written = pair_of(a, b);
+    let taken = entered(parameter, a, block.settings.target, old.out, old.operator);
+    let with_written = ao::operated(old, written);
+    let with_taken = ao::operated(old, taken);
     let mut next = block;
     next.settings = settings;
-    next.state = state;
+    next.state = with_taken;
     next.st_rev = rev;
+    match parameter {
+        37 => next.state = with_written,
+        _ => {}
+    }
     next
 }
 

@@ -33,7 +33,7 @@ use Rattle.device.specs.declared.Device.{Device}
 use Rattle.device.specs.declared.AinBlock.{AinBlock}
 use Rattle.device.specs.declared.TotBlock.{TotBlock}
 use Rattle.device.specs.declared.AoBlock.{AoBlock}
-use Rattle.device.specs.Stored.{scaleOf, pairOf as pairWritten, ainSettings, totSettings, aoSettings, revAfter, operatorBy, ainWritten, totWritten, aoWritten, storedIn}
+use Rattle.device.specs.Stored.{scaleOf, pairOf as pairWritten, ainSettings, totSettings, aoSettings, revAfter, enteredBy, operatorBy, ainWritten, totWritten, aoWritten, storedIn}
 use Rattle.device.specs.Factory.{ainBy, totBy, aoBy, factoryDevice}
 use Rattle.history.specs.Past.{History, start, _▷_, count, countSince, since, latest, told, carried}
 use Rattle.history.specs.Calls.{Event, wrote, words}
@@ -407,7 +407,7 @@ module _ (h : History Event) (block number a b : ℕ) where
     -- what a write makes of it in AIN and AO
     pair-after : (B : ℕ) → eqb B 2 ≡ false → given B h ≡ lastOut B h → eqb block B ≡ true → (eqb number (output B) ≡ true → T (among (outputs B) number))
         → operatorBy (output B) number a b (code h B 5) (given B h) (operator B h) ≡ operator B then
-    unfolding operatorBy Common.operatorAfter
+    unfolding operatorBy enteredBy Common.operatorAfter
     pair-after B n last e t = go (eqb number (output B)) refl
       where
         same : (s m w x : Bool) → x ≡ false → cond s (cond (m && not w) (lastOut B h) (operator B h)) (operator B h) ≡ cond (s && (not x && not w && m)) (lastOut B h) (operator B h)

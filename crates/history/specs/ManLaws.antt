@@ -23,7 +23,7 @@ use Rattle.parameters.specs.Refused.{targetIn}
 use Rattle.parameters.specs.Laws.{by-block}
 use Rattle.device.specs.declared.Device.{Device}
 use Rattle.device.specs.declared.Reading.the-variants.{Read}
-use Rattle.device.specs.Stored.{operatorBy, ainSettings, aoSettings, ainWritten, aoWritten, storedIn}
+use Rattle.device.specs.Stored.{enteredBy, operatorBy, ainSettings, aoSettings, ainWritten, aoWritten, storedIn}
 use Rattle.device.specs.Read.{ainWords, aoWords, wordsOf, readOf}
 use Rattle.device.specs.Read as Reads
 use Rattle.device.specs.Calls.{standingOf, writeOf, tickOf}
@@ -125,11 +125,11 @@ man-stands d b x y =
   where
     ain-stands : eqb (d .ain .settings .target) man ≡ false → writeOf d 1 5 man b .answer ≡ Accepted
         → tickOf (writeOf d 1 5 man b .device) false x y .device .ain .state .out ≡ d .ain .state .out
-    ain-stands other e = unfold tickOf storedIn ainWritten ainSettings operatorBy operatorAfter Ain.tickOf Ain.tickBy Ain.manTick actualMode in rw (stored d 1 5 man b e, other)
+    ain-stands other e = unfold tickOf storedIn ainWritten ainSettings operatorBy enteredBy operatorAfter Ain.tickOf Ain.tickBy Ain.manTick actualMode in rw (stored d 1 5 man b e, other)
 
     ao-stands : eqb (d .ao .settings .target) man ≡ false → writeOf d 3 5 man b .answer ≡ Accepted
         → tickOf (writeOf d 3 5 man b .device) false x y .device .ao .state .out ≡ d .ao .state .out
-    ao-stands other e = unfold tickOf storedIn aoWritten aoSettings operatorBy operatorAfter Ao.tickOf Ao.tickedWith Ao.givenIn byMode actualMode operatedBy in rw (stored d 3 5 man b e, other)
+    ao-stands other e = unfold tickOf storedIn aoWritten aoSettings operatorBy enteredBy operatorAfter Ao.tickOf Ao.tickedWith Ao.givenIn byMode actualMode operatedBy in rw (stored d 3 5 man b e, other)
 
     none : (block : ℕ) → 3 < block → T (eqb block 1 || eqb block 3) → ⊥
     none block h = rw (ne-eqb block 1 (omega arith), ne-eqb block 3 (omega arith)) (λ t. t)
@@ -137,5 +137,5 @@ man-stands d b x y =
 -- and the valve is ordered to stay where it was
 pub man-stays : (d : Device) (b : ℕ) (x y : Pair) → eqb (d .ao .settings .target) man ≡ false → writeOf d 3 5 man b .answer ≡ Accepted
     → tickOf (writeOf d 3 5 man b .device) false x y .order ≡ Position (floatOf (d .ao .state .out .bits))
-unfolding tickOf storedIn aoWritten aoSettings operatorBy operatorAfter Ao.tickOf Ao.tickedWith Ao.givenIn byMode actualMode operatedBy
+unfolding tickOf storedIn aoWritten aoSettings operatorBy enteredBy operatorAfter Ao.tickOf Ao.tickedWith Ao.givenIn byMode actualMode operatedBy
 man-stays d b x y other e = rw (stored d 3 5 man b e, other)
