@@ -1,4 +1,5 @@
--- What an accepted write stores, document 01, Parameters and History rules, and document 02, request 2: each field beside its parameter's number. Assumes nothing.
+-- What an accepted write stores, document 01, Parameters and History rules, and document 02, request 2: each field beside its parameter's number.
+-- Assumes nothing.
 use Prim.Native.Nat.{ℕ, _+_, _%_}
 use mathlib.Core.Bool.{Bool, cond}
 use lib.Dec.{eqb}

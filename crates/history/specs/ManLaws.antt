@@ -41,6 +41,7 @@ Analog block = (block ≡ 1) ⊎ (block ≡ 3)
 abbrev pub HandsNothing : ℕ → History Event → Event → Type 0
 HandsNothing block h e = (isStart e ≡ false) × (handed block h e ≡ none)
 
+-- between two places of a history: writes, telegrams and loads alone
 abbrev pub NoTickNoStart : History Event → Event → Type 0
 NoTickNoStart h e = (isTick e ≡ false) × (isStart e ≡ false)
 
@@ -111,7 +112,8 @@ outOf block = cond (eqb block 3) 37 10
 
 -- Q2.4, no jump: where a write changes the target of AIN or AO to Man from another, a tick without the fault flag then reads as OUT did before both
 pub man-stands : (d : Device) (b : ℕ) (x y : Pair) (block : ℕ) → T (eqb block 1 || eqb block 3) → eqb (targetIn (standingOf d) block) man ≡ false
-    → writeOf d block 5 man b .answer ≡ Accepted → readOf (tickOf (writeOf d block 5 man b .device) false x y .device) block (outOf block) ≡ readOf d block (outOf block)
+    → writeOf d block 5 man b .answer ≡ Accepted
+    → readOf (tickOf (writeOf d block 5 man b .device) false x y .device) block (outOf block) ≡ readOf d block (outOf block)
 unfolding readOf wordsOf ainWords aoWords entryOf entryIn ain ao targetIn
 man-stands d b x y =
     by-block
@@ -125,11 +127,15 @@ man-stands d b x y =
   where
     ain-stands : eqb (d .ain .settings .target) man ≡ false → writeOf d 1 5 man b .answer ≡ Accepted
         → tickOf (writeOf d 1 5 man b .device) false x y .device .ain .state .out ≡ d .ain .state .out
-    ain-stands other e = unfold tickOf storedIn ainWritten ainSettings operatorBy enteredBy operatorAfter Ain.tickOf Ain.tickBy Ain.manTick actualMode in rw (stored d 1 5 man b e, other)
+    ain-stands other e =
+        unfold tickOf storedIn ainWritten ainSettings operatorBy enteredBy operatorAfter Ain.tickOf Ain.tickBy Ain.manTick actualMode
+        in rw (stored d 1 5 man b e, other)
 
     ao-stands : eqb (d .ao .settings .target) man ≡ false → writeOf d 3 5 man b .answer ≡ Accepted
         → tickOf (writeOf d 3 5 man b .device) false x y .device .ao .state .out ≡ d .ao .state .out
-    ao-stands other e = unfold tickOf storedIn aoWritten aoSettings operatorBy enteredBy operatorAfter Ao.tickOf Ao.tickedWith Ao.givenIn byMode actualMode operatedBy in rw (stored d 3 5 man b e, other)
+    ao-stands other e =
+        unfold tickOf storedIn aoWritten aoSettings operatorBy enteredBy operatorAfter Ao.tickOf Ao.tickedWith Ao.givenIn byMode actualMode
+        operatedBy in rw (stored d 3 5 man b e, other)
 
     none : (block : ℕ) → 3 < block → T (eqb block 1 || eqb block 3) → ⊥
     none block h = rw (ne-eqb block 1 (omega arith), ne-eqb block 3 (omega arith)) (λ t. t)

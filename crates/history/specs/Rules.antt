@@ -1,6 +1,6 @@
--- The history rules of document 01, with requests 1 and 2 of document 02: what the head answers, from the accepted events alone (R2): the arguments of calls, and
--- OUT of AIN and AO as read after each tick. Every memory and every choice is said here. What is cited of other crates, arithmetic, encodings and the
--- table's allowed words, is listed in tests/cited and pinned in Cited.
+-- The history rules of document 01, with requests 1 and 2 of document 02: what the head answers, from the accepted events alone (R2): the arguments of
+-- calls, and OUT of AIN and AO as read after each tick. Every memory and every choice is said here. What is cited of other crates, arithmetic, encodings
+-- and the table's allowed words, is listed in tests/cited and pinned in Cited.
 -- A letter and number before a colon is a sentence of the paper, as docs/TRACE.md counts them. Assumes nothing.
 use Prim.Native.Nat.{ℕ, _+_, _*_, _%_}
 use mathlib.Core.Bool.{Bool, true, false, not, _&&_, _||_, cond}
