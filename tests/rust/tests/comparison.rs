@@ -42,10 +42,17 @@ fn histories_reach_all_cases() {
     for history in histories(1, HISTORIES) {
         let mut head = Model::factory();
         let (mut table, mut age) = (Vec::new(), 0);
+        let mut by_hand = [ByHand::default(); 2];
         let long = history.len() > 10_000;
         for call in history {
+            let targets = ANALOG.map(|(block, _)| head.read(block, 5).unwrap().0);
             let answer = call.on(&mut head);
             let mut see = |what: String| *seen.entry(what).or_default() += 1;
+            for ((block, out), (target, man)) in ANALOG.into_iter().zip(targets.into_iter().zip(&mut by_hand)) {
+                for what in man.after(&call, answer, &head, block, out, target) {
+                    see(format!("block {block} {what}"));
+                }
+            }
             match (&call, answer) {
                 (Call::Load(_), Answer::Refused(number)) => see(format!("load refused {number}")),
                 (_, Answer::Refused(number)) => see(format!("refused {number}")),
@@ -117,6 +124,10 @@ fn histories_reach_all_cases() {
     wanted.extend(ain.map(|status| format!("block 1 status {status:02X}")));
     wanted.extend([0x40, 0x44, 0x4C, 0x10, 0x04, 0x80].map(|status| format!("block 2 status {status:02X}")));
     wanted.extend([0x80, 0x48, 0x44, 0x4C, 0x00, 0x04].map(|status| format!("block 3 status {status:02X}")));
+    for (block, targets) in [(1, &[0x08, 0x80][..]), (3, &[0x08, 0x02, 0x80])] {
+        wanted.extend(targets.iter().map(|target| format!("block {block} into Man from {target:02X}")));
+        wanted.extend(IN_MAN.map(|what| format!("block {block} {what}")));
+    }
     for what in wanted {
         let times = seen.get(&what).copied().unwrap_or(0);
         assert!(times >= 100, "{what}: {times} times");
@@ -125,6 +136,70 @@ fn histories_reach_all_cases() {
     assert!(refused_writes * 2 < writes, "{refused_writes} of {writes} writes refused");
     assert!(young * 3 < replaced, "{young} of {replaced} tables replaced soon");
     assert!(linearised >= 500_000, "{linearised} ticks by a table");
+}
+
+/// AIN and AO with the number of OUT.
+const ANALOG: [(u8, u8); 2] = [(1, 10), (3, 37)];
+
+/// What is to be seen of both in Man, besides the targets from which they enter it.
+const IN_MAN: [&str; 8] = [
+    "into Man under 1F",
+    "into Man again without a tick",
+    "in Man over Man",
+    "in Man as entered",
+    "in Man as entered before a fault",
+    "in Man as written",
+    "in Man after a refused target",
+    "in Man after a warm start",
+];
+
+/// What came to a block since it entered Man.
+#[derive(Clone, Copy, Default)]
+struct ByHand {
+    entered: bool,
+    written: bool,
+    ticked: bool,
+    fault: bool,
+    refused: bool,
+}
+
+impl ByHand {
+    /// What is to be seen of a call, `target` being the one before it.
+    fn after(&mut self, call: &Call, answer: Answer, head: &Model, block: u8, out: u8, target: u32) -> Vec<String> {
+        let mut seen = Vec::new();
+        match *call {
+            Call::Factory | Call::Warm => *self = ByHand::default(),
+            Call::Write(to, 5, mode, _) if to == block => {
+                if answer != Answer::Ok {
+                    self.refused = true;
+                } else if mode == 0x10 && target == 0x10 {
+                    seen.push("in Man over Man".into());
+                } else if mode == 0x10 {
+                    seen.push(format!("into Man from {target:02X}"));
+                    seen.extend((head.read(block, out).unwrap().1 == 0x1F).then(|| "into Man under 1F".into()));
+                    seen.extend((self.entered && !self.ticked).then(|| "into Man again without a tick".into()));
+                    *self = ByHand { entered: true, ..ByHand::default() };
+                }
+            }
+            Call::Write(to, number, ..) if (to, number) == (block, out) && answer == Answer::Ok => self.written = true,
+            Call::Tick { fault, .. } => {
+                self.ticked = true;
+                self.fault |= fault;
+                if head.read(block, 6) == Ok((0x10, 0)) {
+                    let kind = match (self.entered, self.written, self.fault) {
+                        (_, true, _) => "in Man as written",
+                        (true, false, true) => "in Man as entered before a fault",
+                        (true, false, false) => "in Man as entered",
+                        (false, false, _) => "in Man after a warm start",
+                    };
+                    seen.push(kind.into());
+                    seen.extend(self.refused.then(|| "in Man after a refused target".into()));
+                }
+            }
+            _ => {}
+        }
+        seen
+    }
 }
 
 /// The pairs of a load that was accepted.
