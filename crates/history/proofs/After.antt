@@ -15,7 +15,7 @@ use Rattle.device.specs.Read.{readOf}
 use Rattle.device.specs.Calls.{tickOf, writeOf, telegramOf, loadOf}
 use Rattle.history.specs.declared.Replayed.{Replayed}
 use Rattle.history.specs.Past.{History, start, _▷_}
-use Rattle.history.specs.Calls.{Call, tick, write, load, Event, fitting, allFit, after, event, reachedFrom, traceFrom, reached, trace}
+use Rattle.history.specs.Calls.{Fed, tickedBy, Call, tick, write, load, Event, fitting, allFit, after, event, reachedFrom, traceFrom, reached, trace}
 use Rattle.history.specs.Rules.{accepted, reading, total, order, toWrite, toTelegram, toLoad}
 use Rattle.history.specs.Rules as Rules
 use Rattle.history.specs.Claim.{answers, Claim}
@@ -39,11 +39,11 @@ fit-more [] c t f = and-i (fitting c) (allFit []) f tt
 fit-more (x ∷ cs) c t f = and-i (fitting x) (allFit (cs ++ (c ∷ []))) (and-l (fitting x) (allFit cs) t) (fit-more cs c (and-r (fitting x) (allFit cs) t) f)
 
 -- the order of a tick after a list
-order-next : (cs : List Call) → T (allFit cs) → (fault : Bool) (ain tot : Pair) → tickOf (reached cs) fault ain tot .order ≡ order (accepted (trace cs)) fault
+order-next : (cs : List Call) → T (allFit cs) → (fault : Bool) (fed : Fed) → tickedBy (reached cs) fault fed .order ≡ order (accepted (trace cs)) fault
 unfolding reached trace event accepted
-order-next cs fit fault ain tot =
-    let all = demand-3 (cs ++ (tick fault ain tot ∷ [])) (fit-more cs (tick fault ain tot) fit tt) .ticks in
-    subst (λ (h : History Event). Rattle.history.specs.Past.Each Rattle.history.specs.Claim.Tick (accepted h)) (trace-more cs (tick fault ain tot) Rattle.device.specs.Factory.factoryDevice start) all .1 .drive
+order-next cs fit fault fed =
+    let all = demand-3 (cs ++ (tick fault fed ∷ [])) (fit-more cs (tick fault fed) fit tt) .ticks in
+    subst (λ (h : History Event). Rattle.history.specs.Past.Each Rattle.history.specs.Claim.Tick (accepted h)) (trace-more cs (tick fault fed) Rattle.device.specs.Factory.factoryDevice start) all .1 .drive
 
 module _ (s : List ℕ) (bytes : (i : ℕ) → getD s i 0 < 256) (r : Replayed) (R : Replays s r) where
   -- the list that it leads to; a malformed one to that without a call
@@ -75,7 +75,7 @@ module _ (s : List ℕ) (bytes : (i : ℕ) → getD s i 0 < 256) (r : Replayed) 
 
   pub drive-is : (fault : Bool) (ain tot : Pair) → tickOf (r .device) fault ain tot .order ≡ order (heard s) fault
   unfolding heard
-  drive-is fault ain tot = ap (λ (d : Device). tickOf d fault ain tot .order) is ∙ order-next (listed (decoded s)) fits fault ain tot
+  drive-is fault ain tot = let fed : Fed = record { ain = ain; tot = tot } in ap (λ (d : Device). tickedBy d fault fed .order) is ∙ order-next (listed (decoded s)) fits fault fed
 
   pub write-is : (block number a b : ℕ) → writeOf (r .device) block number a b .answer ≡ toWrite (heard s) block number a b
   unfolding heard event

@@ -19,7 +19,7 @@ use Rattle.tot.specs.Total.{incrementOf, thousandthsOf, sumOf, valueGiven}
 use Rattle.parameters.specs.Table as Table
 use Rattle.parameters.specs.Words.{allowsOf}
 use Rattle.history.specs.Past.{since, latest, carried}
-use Rattle.history.specs.Rules.{statics, kepts, outputs, readOnlys, has, defaults, stored, table, tabled, linear, said, modeAt, toWrite, isWhole, toLoad, badStatus, scaled, calculated, ainBad, filterValue, raises, clears, stands, standsWith, alarmed, ainGives, aoScaled, given}
+use Rattle.history.specs.Rules.{statics, kepts, outputs, readOnlys, has, defaults, stored, table, tabled, linear, said, modeAt, toWrite, isWhole, toLoad, badStatus, scaled, calculated, ainBad, filterValue, raises, clears, stands, standsWith, alarmed, senses, ainSensed, aoScaled, given}
 use Rattle.history.specs.Cited.{Cited, cutTo, clearedOf, finiteOr}
 
 whole-cut : (n : ℕ) (z : ℤ) → Whole.limit n z ≡ cutTo n z
@@ -51,8 +51,8 @@ first-pair a b c d e f g h s = ap (λ (n : ℕ). pairsFrom n (a ∷ b ∷ c ∷ 
 pub cited-points : Cited
 unfolding statics kepts outputs readOnlys has defaults stored latest table tabled linear said toWrite toLoad isWhole pairsIn pairsFrom scaled calculated aoScaled fractionOf atFraction allowedScale pairOf incrementOf thousandthsOf sumOf valueGiven Whole.limit Whole.highest24ℤ Whole.highestBits Table.entryOf Table.entryIn Table.rowsOf Table.physical Table.ain Table.tot Table.ao allowsOf ofInt ofBits toBits add sub mul div lt le eq ne toSigned neg lib.Ieee.size
 cited-points = record {
-  measured = λ tot w x o. unfold given ainGives modeAt filterValue carried ainBad badStatus alarmed standsWith stands since raises clears in refl;
-  alarm = λ ain tot status x o. unfold standsWith stands since raises clears modeAt in (refl, refl, refl);
+  measured = λ tot seen. unfold given senses ainSensed modeAt filterValue carried ainBad badStatus alarmed standsWith stands since raises clears in refl;
+  alarm = λ fed status seen. unfold standsWith stands since raises clears modeAt in (refl, refl, refl);
   fraction = λ low high x. refl;
   place = λ low high f. refl;
   increment = λ rate. whole-cut (10 ^ 9) (toSigned 63 (mul binary32 rate (ofInt binary32 (pos 100))));

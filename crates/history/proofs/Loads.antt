@@ -21,13 +21,14 @@ use Rattle.linearisation.specs.Table.{tableOf, hasTable, pairsIn, wholePairs, f
 use Rattle.linearisation.specs.Value.{orHere, usedOn, between, byUsed, valueAt}
 use Rattle.linearisation.specs.Laws.{pairs-back, made-valid}
 use Rattle.ain.specs.Tick as Ain
+use Rattle.ao.specs.State.{inputFrom}
 use Rattle.device.specs.declared.Device.{Device}
 use Rattle.device.specs.declared.Answered.{Answered}
 use Rattle.device.specs.Calls.{loadBy, loadOf}
 use Rattle.history.specs.Past.{History, _▷_, told, count, latest, carried}
 use Rattle.history.specs.Calls.{Event, loaded}
-use Rattle.history.specs.Rules.{orElse, stored, table, along, said, lowest, linear, measured, isWhole, allFinite, rising, code, refused, tabled, toLoad, isStaticWrite, stRev, operator, total}
-use Rattle.history.proofs.Ruled.{inputAt, ainAt, totAt, aoAt, ainIn, totIn, aoIn, deviceOf, ain-left, tot-left, ao-left, rev-step, input-still}
+use Rattle.history.specs.Rules.{Drive, analogOut, orElse, stored, table, along, said, lowest, linear, measured, isWhole, allFinite, rising, code, refused, tabled, toLoad, isStaticWrite, stRev, operator, total}
+use Rattle.history.proofs.Ruled.{inputAt, aoInput, ainAt, totAt, aoAt, ainIn, totIn, aoIn, deviceOf, ain-left, tot-left, ao-left, rev-step, input-still}
 
 -- ---- what a value becomes
 
@@ -230,8 +231,8 @@ module _ (h : History Event) (bytes : List ℕ) where
   abbrev then : History Event
   then = h ▷ loaded bytes
 
-  input-same : (i : ℕ) → inputAt i h ≡ inputAt i then
-  input-same i = sym (input-still i (loaded bytes) refl h refl refl)
+  input-same : {A : Type 0} (d : Drive A) (i : ℕ) → inputAt d i h ≡ inputAt d i then
+  input-same d i = sym (input-still d i (loaded bytes) refl h refl refl)
 
   ain-same : ainIn h ≡ ainIn then
   unfolding ainIn operator latest
@@ -243,7 +244,7 @@ module _ (h : History Event) (bytes : List ℕ) where
 
   ao-same : aoIn h ≡ aoIn then
   unfolding aoIn operator latest
-  ao-same = ao-left h (loaded bytes) (λ A f s o. refl) (operator 3 h) (inputAt 0 h) (inputAt 1 h) refl (input-same 0) (input-same 1)
+  ao-same = ao-left h (loaded bytes) (λ A f s o. refl) (operator 3 h) (aoInput 0 h) (aoInput 1 h) refl (ap inputFrom (input-same analogOut 0)) (ap inputFrom (input-same analogOut 1))
 
   module _ (e : toLoad h bytes ≡ Accepted) where
     parts : (eqb (code h 0 18) 0 ≡ false) × (judged bytes ≡ Accepted)

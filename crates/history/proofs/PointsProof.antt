@@ -67,6 +67,6 @@ points = record {
   e = unfold incrementOf Whole.limit ofInt ofBits mul toSigned in refl;
   f = unfold incrementOf Whole.limit ofInt ofBits mul toSigned in refl;
   g = unfold valueGiven Whole.highest24ℤ Whole.highestBits ofInt div lib.Ieee.size in refl;
-  h = λ fault₁ fault₂ fault₃ ain₁ ain₂ ain₃ tot₁ tot₂ tot₃ w₁ w₂ w₃ x₁ x₂ x₃ o₁ o₂ o₃. unfold isFailSafe came since silence countSince ifs isUsableOn isIfsOn pairOf stored latest defaults ofBits in (refl, refl, refl, refl);
+  h = λ fault₁ fault₂ fault₃ fed₁ fed₂ fed₃ seen₁ seen₂ seen₃. unfold isFailSafe came since silence countSince ifs isUsableOn isIfsOn pairOf stored latest defaults ofBits in (refl, refl, refl, refl);
   i = (all-met 65536, rev-law 1 e17 start 65536 (unfold statics in refl) ∙ unfold count in refl);
 }

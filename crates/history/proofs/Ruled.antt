@@ -24,8 +24,8 @@ use Rattle.tot.specs.Total.{thousandthsOf}
 use Rattle.ao.specs.declared.Settings.{Settings as AoSettings}
 use Rattle.ao.specs.declared.State.{State as AoState}
 use Rattle.ao.specs.declared.Input.{Input as Setpoint}
-use Rattle.ao.specs.State.{operatedBy, freshState, started, noTelegrams}
-use Rattle.ao.specs.FailSafe.{emptied}
+use Rattle.ao.specs.State.{inputFrom, operatedBy, freshState, started, noTelegrams}
+use Rattle.ao.specs.FailSafe.{InputOf, emptied}
 use Rattle.parameters.specs.declared.Words.{Words}
 use Rattle.parameters.specs.Table.{isStatic}
 use Rattle.parameters.specs.Table as Table
@@ -36,8 +36,8 @@ use Rattle.device.specs.declared.AoBlock.{AoBlock}
 use Rattle.device.specs.Stored.{scaleOf, pairOf as pairWritten, ainSettings, totSettings, aoSettings, revAfter, enteredBy, operatorBy, ainWritten, totWritten, aoWritten, storedIn}
 use Rattle.device.specs.Factory.{ainBy, totBy, aoBy, factoryDevice}
 use Rattle.history.specs.Past.{History, start, _▷_, count, countSince, since, latest, told, carried}
-use Rattle.history.specs.Calls.{Event, wrote, words}
-use Rattle.history.specs.Rules.{pair, statics, outputs, among, defaults, orZeros, orElse, stored, wordsTo, never, code, float, scale, table, isStaticWrite, stRev, actual, lastOut, entersMan, handed, man, operator, filterValue, lastUsable, Alarm, hiHi, hi, lo, loLo, stands, rateValue, total, given, came, setpoint, silence, ifs, isTick, isStart, onTick, pairOn, holds, isUsable, isIfs, isUsableOn, isIfsOn, raises, clears}
+use Rattle.history.specs.Calls.{Fed, Seen, Event, wrote, words}
+use Rattle.history.specs.Rules.{pair, statics, outputs, among, defaults, orZeros, orElse, stored, wordsTo, never, code, float, scale, table, isStaticWrite, stRev, actual, lastOut, entersMan, handed, man, operator, filterValue, Sensor, lastUsable, analogIn, Alarm, hiHi, hi, lo, loLo, stands, rateValue, total, given, Drive, analogOut, outNumber, came, setpoint, silence, ifs, isTick, isStart, onTick, pairOn, holds, isUsable, isIfs, isUsableOn, isIfsOn, raises, clears}
 use Rattle.history.proofs.Truth.{and-true, and-false}
 use Rattle.history.proofs.Lists.{static-same}
 
@@ -49,8 +49,12 @@ keptOf none = Common.none
 keptOf (some x) = Common.kept x
 
 -- a setpoint input by the rules; the count stops at 65,536
-unfoldable pub inputAt : ℕ → History Event → Setpoint
-inputAt input h = record { some = came input h; value = setpoint input h; silence = cond (came input h) (min (silence input h) 65536) 0; ifs = ifs input h }
+unfoldable pub inputAt : {A : Type 0} → Drive A → ℕ → History Event → InputOf A
+inputAt d input h = record { some = came d input h; value = setpoint d input h; silence = cond (came d input h) (min (silence d input h) 65536) 0; ifs = ifs d input h }
+
+-- and as AO holds it
+abbrev pub aoInput : ℕ → History Event → Setpoint
+aoInput input h = inputFrom (inputAt analogOut input h)
 
 unfoldable pub alarmsAt : History Event → Alarms
 alarmsAt h = record { «hi_hi» = stands hiHi h; hi = stands hi h; lo = stands lo h; «lo_lo» = stands loLo h }
@@ -105,13 +109,13 @@ unfoldable pub aoAt : History Event → AoSettings
 aoAt h = aoOf (stored h 3)
 
 unfoldable pub ainIn : History Event → AinState
-ainIn h = record { out = given 1 h; mode = actual 1 h; filter = keptOf (filterValue h); last = keptOf (lastUsable h); operator = operator 1 h; alarms = alarmsAt h }
+ainIn h = record { out = given 1 h; mode = actual 1 h; filter = keptOf (filterValue h); last = keptOf (lastUsable analogIn h); operator = operator 1 h; alarms = alarmsAt h }
 
 unfoldable pub totIn : History Event → TotState
 totIn h = record { total = total h; out = given 2 h; mode = actual 2 h; rate = keptOf (rateValue h); «operator_status» = operator 2 h .status }
 
 unfoldable pub aoIn : History Event → AoState
-aoIn h = record { out = given 3 h; mode = actual 3 h; operator = operator 3 h; sp = inputAt 0 h; «rcas_in» = inputAt 1 h }
+aoIn h = record { out = given 3 h; mode = actual 3 h; operator = operator 3 h; sp = aoInput 0 h; «rcas_in» = aoInput 1 h }
 
 abbrev pub ainBlock : History Event → AinBlock
 ainBlock h = record { settings = ainAt h; state = ainIn h; «st_rev» = stRev h 1; table = tableOf (table h) }
@@ -145,35 +149,31 @@ alarms-still h e r c = λ i. record { «hi_hi» = same hiHi i; hi = same hi i; l
     same : (a : Alarm) → stands a (h ▷ e) ≡ stands a h
     same a = since-still (raises a) (clears a) h e (r a) (c a)
 
-silent-same : (input : ℕ) (h : History Event) (e : Event) → isUsableOn input e ≡ false → isTick e ≡ false → silence input (h ▷ e) ≡ silence input h
-unfolding silence countSince
-silent-same input h e u t = rw (u, t)
-
 -- without a telegram on an input none is usable there, and none is IFS
-module _ (input : ℕ) (e : Event) (n : pairOn input e ≡ none) where
-  pub not-usable : isUsableOn input e ≡ false
+module _ {A : Type 0} (d : Drive A) (input : ℕ) (e : Event) (n : pairOn d input e ≡ none) where
+  pub not-usable : isUsableOn d input e ≡ false
   unfolding isUsableOn
-  not-usable = ap (holds isUsable) n
+  not-usable = ap (holds (isUsable d)) n
 
-  pub not-ifs : isIfsOn input e ≡ false
+  pub not-ifs : isIfsOn d input e ≡ false
   unfolding isIfsOn
   not-ifs = ap (holds isIfs) n
 
   module _ (h : History Event) (s : isStart e ≡ false) where
-    pub came-same : came input (h ▷ e) ≡ came input h
+    pub came-same : came d input (h ▷ e) ≡ came d input h
     unfolding came
-    came-same = since-still (λ h e. isUsableOn input e) (λ h e. isStart e) h e not-usable s
+    came-same = since-still (λ h e. isUsableOn d input e) (λ h e. isStart e) h e not-usable s
 
-    pub ifs-same : ifs input (h ▷ e) ≡ ifs input h
+    pub ifs-same : ifs d input (h ▷ e) ≡ ifs d input h
     unfolding ifs
-    ifs-same = since-still (λ h e. isIfsOn input e) (λ h e. isUsableOn input e || isStart e) h e not-ifs (ap (λ (x : Bool). x || isStart e) not-usable ∙ s)
+    ifs-same = since-still (λ h e. isIfsOn d input e) (λ h e. isUsableOn d input e || isStart e) h e not-ifs (ap (λ (x : Bool). x || isStart e) not-usable ∙ s)
 
-    pub setpoint-same : setpoint input (h ▷ e) ≡ setpoint input h
+    pub setpoint-same : setpoint d input (h ▷ e) ≡ setpoint d input h
     unfolding setpoint latest
     setpoint-same = rw (s, not-usable)
 
     -- an event that is no tick either leaves the input
-    pub input-still : isTick e ≡ false → inputAt input (h ▷ e) ≡ inputAt input h
+    pub input-still : isTick e ≡ false → inputAt d input (h ▷ e) ≡ inputAt d input h
     unfolding inputAt
     input-still t = λ i. record {
       some = came-same i;
@@ -182,13 +182,13 @@ module _ (input : ℕ) (e : Event) (n : pairOn input e ≡ none) where
       ifs = ifs-same i;
     }
       where
-        silence-same : silence input (h ▷ e) ≡ silence input h
-        silence-same = silent-same input h e not-usable t
+        silence-same : silence d input (h ▷ e) ≡ silence d input h
+        silence-same = unfold silence countSince in rw (not-usable, t)
 
 -- ---- an event that is no tick and no start: the states of the blocks after it, by what it makes of the operator's pair, the total and the inputs
 
 abbrev pub Still : Event → Type 1
-Still e = (A : Type 0) (f : Bool → Pair → Pair → Words → Words → A) (s o : A) → onTick f s o e ≡ o
+Still e = (A : Type 0) (f : Bool → Fed → Seen → A) (s o : A) → onTick f s o e ≡ o
 
 module _ (h : History Event) (e : Event) (still : Still e) where
   given-left : (block : ℕ) → given block h ≡ given block (h ▷ e)
@@ -203,9 +203,9 @@ module _ (h : History Event) (e : Event) (still : Still e) where
   unfolding filterValue carried
   filter-left = sym (still _ _ _ (filterValue h))
 
-  last-left : lastUsable h ≡ lastUsable (h ▷ e)
+  last-left : {A : Type 0} (s : Sensor A) → lastUsable s h ≡ lastUsable s (h ▷ e)
   unfolding lastUsable carried
-  last-left = sym (still _ _ _ (lastUsable h))
+  last-left s = sym (still _ _ _ (lastUsable s h))
 
   rate-left : rateValue h ≡ rateValue (h ▷ e)
   unfolding rateValue carried
@@ -221,7 +221,7 @@ module _ (h : History Event) (e : Event) (still : Still e) where
     out = given-left 1 i;
     mode = actual-left 1 i;
     filter = keptOf (filter-left i);
-    last = keptOf (last-left i);
+    last = keptOf (last-left analogIn i);
     operator = o i;
     alarms = alarms-left i;
   }
@@ -231,7 +231,7 @@ module _ (h : History Event) (e : Event) (still : Still e) where
   unfolding totIn
   tot-left z status t o = λ i. record { total = t i; out = given-left 2 i; mode = actual-left 2 i; rate = keptOf (rate-left i); «operator_status» = o i }
 
-  pub ao-left : (p : Pair) (sp rcasIn : Setpoint) → p ≡ operator 3 (h ▷ e) → sp ≡ inputAt 0 (h ▷ e) → rcasIn ≡ inputAt 1 (h ▷ e)
+  pub ao-left : (p : Pair) (sp rcasIn : Setpoint) → p ≡ operator 3 (h ▷ e) → sp ≡ aoInput 0 (h ▷ e) → rcasIn ≡ aoInput 1 (h ▷ e)
       → record { out = given 3 h; mode = actual 3 h; operator = p; sp = sp; «rcas_in» = rcasIn } ≡ aoIn (h ▷ e)
   unfolding aoIn
   ao-left p sp rcasIn o u v = λ i. record { out = given-left 3 i; mode = actual-left 3 i; operator = o i; sp = u i; «rcas_in» = v i }
@@ -282,17 +282,13 @@ module _ (h : History Event) (block number a b : ℕ) where
       ∙ ap (λ (p : Bool). cond (p && among (statics B) number) (count (isStaticWrite B) h + 1) (count (isStaticWrite B) h) % 65536) (sym e)
   rev-wrote B false e = ap (λ (p : Bool). cond (p && among (statics B) number) (count (isStaticWrite B) h + 1) (count (isStaticWrite B) h) % 65536) (sym e)
 
-  -- the operator's pair
-  abbrev output : ℕ → ℕ
-  output B = cond (eqb B 3) 37 10
-
   -- the target is written and enters Man
   abbrev enters : ℕ → Bool
   enters B = eqb number 5 && entersMan B (code h B 5) a
 
-  operator-wrote : (B : ℕ) → operator B then ≡ cond (not (eqb block B)) (operator B h) (cond (eqb number (output B)) (pair a b) (cond (enters B) (lastOut B h) (operator B h)))
+  operator-wrote : (B : ℕ) → operator B then ≡ cond (not (eqb block B)) (operator B h) (cond (eqb number (outNumber B)) (pair a b) (cond (enters B) (lastOut B h) (operator B h)))
   unfolding operator latest
-  operator-wrote B = go (eqb block B) (eqb number (output B)) (enters B)
+  operator-wrote B = go (eqb block B) (eqb number (outNumber B)) (enters B)
     where
       go : (p q r : Bool) → orElse (pair 0 0x4c) (told (cond (not p) none (cond q (some (pair a b)) (cond r (some (lastOut B h)) none))) (latest (handed B) isStart h))
           ≡ cond (not p) (orElse (pair 0 0x4c) (latest (handed B) isStart h)) (cond q (pair a b) (cond r (lastOut B h) (orElse (pair 0 0x4c) (latest (handed B) isStart h))))
@@ -302,14 +298,14 @@ module _ (h : History Event) (block number a b : ℕ) where
       go true false false = refl
 
   -- of the block written, by whether its output was, and whether it enters Man; and of another block
-  operated : (B : ℕ) (q r : Bool) → eqb block B ≡ true → eqb number (output B) ≡ q → enters B ≡ r → cond q (pair a b) (cond r (lastOut B h) (operator B h)) ≡ operator B then
+  operated : (B : ℕ) (q r : Bool) → eqb block B ≡ true → eqb number (outNumber B) ≡ q → enters B ≡ r → cond q (pair a b) (cond r (lastOut B h) (operator B h)) ≡ operator B then
   operated B q r e f g = sym (operator-wrote B ∙ (λ i. cond (not (e i)) (operator B h) (cond (f i) (pair a b) (cond (g i) (lastOut B h) (operator B h)))))
 
   unoperated : (B : ℕ) → eqb block B ≡ false → operator B h ≡ operator B then
-  unoperated B e = sym (operator-wrote B ∙ (λ i. cond (not (e i)) (operator B h) (cond (eqb number (output B)) (pair a b) (cond (enters B) (lastOut B h) (operator B h)))))
+  unoperated B e = sym (operator-wrote B ∙ (λ i. cond (not (e i)) (operator B h) (cond (eqb number (outNumber B)) (pair a b) (cond (enters B) (lastOut B h) (operator B h)))))
 
-  input-same : (i : ℕ) → inputAt i h ≡ inputAt i then
-  input-same i = sym (input-still i (wrote block number a b) refl h refl refl)
+  input-same : {A : Type 0} (d : Drive A) (i : ℕ) → inputAt d i h ≡ inputAt d i then
+  input-same d i = sym (input-still d i (wrote block number a b) refl h refl refl)
 
   -- ---- AIN
 
@@ -385,7 +381,7 @@ module _ (h : History Event) (block number a b : ℕ) where
 
   ao-operator : (p : Pair) → p ≡ operator 3 then → operatedBy (aoIn h) p ≡ aoIn then
   unfolding aoIn operatedBy
-  ao-operator p e = ao-left h (wrote block number a b) (λ A f s o. refl) p (inputAt 0 h) (inputAt 1 h) e (input-same 0) (input-same 1)
+  ao-operator p e = ao-left h (wrote block number a b) (λ A f s o. refl) p (aoInput 0 h) (aoInput 1 h) e (ap inputFrom (input-same analogOut 0)) (ap inputFrom (input-same analogOut 1))
 
   ao-still : operator 3 h ≡ operator 3 then → aoIn h ≡ aoIn then
   unfolding aoIn operatedBy
@@ -397,7 +393,7 @@ module _ (h : History Event) (block number a b : ℕ) where
     byte s = omega arith
 
     -- the pair written, where an output was
-    pair-written : (B : ℕ) → eqb block B ≡ true → eqb number (output B) ≡ true → T (among (outputs B) number) → pairWritten a b ≡ operator B then
+    pair-written : (B : ℕ) → eqb block B ≡ true → eqb number (outNumber B) ≡ true → T (among (outputs B) number) → pairWritten a b ≡ operator B then
     pair-written B e f t = (λ i. pair a (byte (small B e t) i)) ∙ operated B true (enters B) e f refl
 
     is : (q : Bool) → q ≡ true → T (q || false)
@@ -405,10 +401,10 @@ module _ (h : History Event) (block number a b : ℕ) where
     is false e = absurd (true≢false (sym e))
 
     -- what a write makes of it in AIN and AO
-    pair-after : (B : ℕ) → eqb B 2 ≡ false → given B h ≡ lastOut B h → eqb block B ≡ true → (eqb number (output B) ≡ true → T (among (outputs B) number))
-        → operatorBy (output B) number a b (code h B 5) (given B h) (operator B h) ≡ operator B then
+    pair-after : (B : ℕ) → eqb B 2 ≡ false → given B h ≡ lastOut B h → eqb block B ≡ true → (eqb number (outNumber B) ≡ true → T (among (outputs B) number))
+        → operatorBy (outNumber B) number a b (code h B 5) (given B h) (operator B h) ≡ operator B then
     unfolding operatorBy enteredBy Common.operatorAfter
-    pair-after B n last e t = go (eqb number (output B)) refl
+    pair-after B n last e t = go (eqb number (outNumber B)) refl
       where
         same : (s m w x : Bool) → x ≡ false → cond s (cond (m && not w) (lastOut B h) (operator B h)) (operator B h) ≡ cond (s && (not x && not w && m)) (lastOut B h) (operator B h)
         same s m w true y = absurd (true≢false y)
@@ -418,7 +414,7 @@ module _ (h : History Event) (block number a b : ℕ) where
         same true false true false y = refl
         same true false false false y = refl
 
-        go : (q : Bool) → eqb number (output B) ≡ q → cond q (pairWritten a b) (cond (eqb number 5) (cond (eqb a man && not (eqb (code h B 5) man)) (given B h) (operator B h)) (operator B h)) ≡ operator B then
+        go : (q : Bool) → eqb number (outNumber B) ≡ q → cond q (pairWritten a b) (cond (eqb number 5) (cond (eqb a man && not (eqb (code h B 5) man)) (given B h) (operator B h)) (operator B h)) ≡ operator B then
         go true f = pair-written B e f (t f)
         go false f = ap (λ (p : Pair). cond (eqb number 5) (cond (eqb a man && not (eqb (code h B 5) man)) p (operator B h)) (operator B h)) last
             ∙ same (eqb number 5) (eqb a man) (eqb (code h B 5) man) (eqb B 2) n ∙ operated B false (enters B) e f refl

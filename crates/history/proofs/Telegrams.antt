@@ -19,74 +19,74 @@ use Rattle.wire.specs.Bytes.{pairOf, wordOf}
 use Rattle.blocks.specs.Common as Common
 use Rattle.ao.specs.declared.Input.{Input as Setpoint}
 use Rattle.ao.specs.declared.State.{State as AoState}
-use Rattle.ao.specs.FailSafe.{usable, initiates, afterTelegram, emptied}
-use Rattle.ao.specs.State.{noTelegrams, started, warmStarted as aoWarmStarted}
+use Rattle.ao.specs.FailSafe.{InputOf, usable, initiates, afterTelegram, emptied}
+use Rattle.ao.specs.State.{inputFrom, noTelegrams, started, warmStarted as aoWarmStarted}
 use Rattle.ao.specs.Telegram.{inputAfter, takenOn, receivedOn}
 use Rattle.ao.specs.Telegram as Ao
 use Rattle.ao.specs.Laws.{usable-means, initiates-means, usable-excludes}
 use Rattle.device.specs.declared.Device.{Device}
 use Rattle.device.specs.Calls.{telegramOf, warmStarted}
-use Rattle.history.specs.Past.{History, _▷_, count, countSince, since, latest, carried}
+use Rattle.history.specs.Past.{History, _▷_, count, countSince, since, told, latest, carried}
 use Rattle.history.specs.Calls.{Event, telegram, warmed}
-use Rattle.history.specs.Rules.{pair, stored, code, table, outOfService, stRev, actual, operator, filterValue, lastUsable, Alarm, hiHi, hi, lo, loLo, stands, raises, clears, rateValue, total, given, held, came, setpoint, silence, ifs, isTick, isStart, pairOn, holds, isUsable, isIfs, isUsableOn, isIfsOn}
-use Rattle.history.proofs.Ruled.{inputAt, alarmsAt, ainAt, totAt, aoAt, ainIn, totIn, aoIn, deviceOf, ain-left, tot-left, ao-left, input-still}
+use Rattle.history.specs.Rules.{pair, orElse, Drive, analogOut, setpointOn, stored, code, table, outOfService, stRev, actual, operator, filterValue, lastUsable, Alarm, hiHi, hi, lo, loLo, stands, raises, clears, rateValue, total, given, held, came, setpoint, silence, ifs, isTick, isStart, pairOn, holds, isUsable, isIfs, isUsableOn, isIfsOn}
+use Rattle.history.proofs.Ruled.{inputAt, aoInput, alarmsAt, ainAt, totAt, aoAt, ainIn, totIn, aoIn, deviceOf, ain-left, tot-left, ao-left, input-still}
 use Rattle.history.proofs.Truth.{and-true, and-false}
 
 -- an input by its four parts
-abbrev made : Bool → lib.Ieee.Float → ℕ → Bool → Setpoint
+abbrev made : {A : Type 0} → Bool → A → ℕ → Bool → InputOf A
 made came value n ifs = record { some = came; value = value; silence = cond came (min n 65536) 0; ifs = ifs }
 
 -- ---- an input after a telegram on it
 
-module _ (input : ℕ) (h : History Event) (e : Event) (p : Pair) (here : pairOn input e ≡ some p) (s : isStart e ≡ false) (t : isTick e ≡ false) where
+module _ {A : Type 0} (d : Drive A) (input : ℕ) (h : History Event) (e : Event) (p : Pair) (here : pairOn d input e ≡ some p) (s : isStart e ≡ false) (t : isTick e ≡ false) where
   abbrev u : Bool
-  u = usable (p .status) (finite (floatOf (p .bits)))
+  u = usable (p .status) (d .fine (p .bits))
 
   abbrev f : Bool
   f = initiates (p .status)
 
-  usable-is : isUsableOn input e ≡ u
+  usable-is : isUsableOn d input e ≡ u
   unfolding isUsableOn
-  usable-is = ap (holds isUsable) here ∙ sym (usable-means (p .status) (finite (floatOf (p .bits))))
+  usable-is = ap (holds (isUsable d)) here ∙ sym (usable-means (p .status) (d .fine (p .bits)))
 
-  ifs-is : isIfsOn input e ≡ f
+  ifs-is : isIfsOn d input e ≡ f
   unfolding isIfsOn
   ifs-is = ap (holds isIfs) here ∙ sym (initiates-means (p .status))
 
-  came-is : came input (h ▷ e) ≡ u || (came input h && true)
+  came-is : came d input (h ▷ e) ≡ u || (came d input h && true)
   unfolding came since
   came-is = rw (usable-is, s)
 
-  ifs-then : ifs input (h ▷ e) ≡ f || (ifs input h && not (u || false))
+  ifs-then : ifs d input (h ▷ e) ≡ f || (ifs d input h && not (u || false))
   unfolding ifs since
   ifs-then = rw (usable-is, ifs-is, s)
 
-  silence-is : silence input (h ▷ e) ≡ cond u 0 (silence input h)
+  silence-is : silence d input (h ▷ e) ≡ cond u 0 (silence d input h)
   unfolding silence countSince
   silence-is = rw (usable-is, t)
 
-  setpoint-is : setpoint input (h ▷ e) ≡ cond u (floatOf (p .bits)) (setpoint input h)
+  setpoint-is : setpoint d input (h ▷ e) ≡ cond u (d .value (p .bits)) (setpoint d input h)
   unfolding setpoint latest
   setpoint-is = rw (s, usable-is, here) (go u)
     where
-      go : (b : Bool) → Rattle.history.specs.Rules.orElse (floatOf 0) (Rattle.history.specs.Past.told (cond b (some (floatOf (p .bits))) none) (latest (λ q. Rattle.history.specs.Rules.setpointOn input) isStart h)) ≡ cond b (floatOf (p .bits)) (setpoint input h)
+      go : (b : Bool) → orElse (d .zero) (told (cond b (some (d .value (p .bits))) none) (latest (λ q. setpointOn d input) isStart h)) ≡ cond b (d .value (p .bits)) (setpoint d input h)
       go true = refl
       go false = refl
 
-  no-ifs : u ≡ true → ifs input (h ▷ e) ≡ false
-  no-ifs eu = rw (eu, usable-excludes (p .status) (finite (floatOf (p .bits))) eu) at ifs-then ∙ and-false (ifs input h)
+  no-ifs : u ≡ true → ifs d input (h ▷ e) ≡ false
+  no-ifs eu = rw (eu, usable-excludes (p .status) (d .fine (p .bits)) eu) at ifs-then ∙ and-false (ifs d input h)
 
-  pub input-heard : inputAt input (h ▷ e) ≡ inputAfter (inputAt input h) p
-  unfolding inputAt inputAfter afterTelegram
+  pub input-heard : inputAt d input (h ▷ e) ≡ afterTelegram (p .status) (d .fine (p .bits)) (d .value (p .bits)) (inputAt d input h)
+  unfolding inputAt afterTelegram
   input-heard = go u refl f refl
     where
-      old : Setpoint
-      old = inputAt input h
+      old : InputOf A
+      old = inputAt d input h
 
-      go : (b : Bool) → u ≡ b → (c : Bool) → f ≡ c → inputAt input (h ▷ e) ≡ Rattle.ao.specs.State.inputFrom (cond b (record { some = true; value = floatOf (p .bits); silence = 0; ifs = false }) (cond c (record { some = old .some; value = old .value; silence = old .silence; ifs = true }) (Rattle.ao.specs.State.inputOf old)))
+      go : (b : Bool) → u ≡ b → (c : Bool) → f ≡ c → inputAt d input (h ▷ e) ≡ cond b (record { some = true; value = d .value (p .bits); silence = 0; ifs = false }) (cond c (record { some = old .some; value = old .value; silence = old .silence; ifs = true }) old)
       go true eu c ef = λ i. made ((rw eu at came-is) i) ((rw eu at setpoint-is) i) ((rw eu at silence-is) i) ((no-ifs eu) i)
-      go false eu true ef = λ i. made ((rw eu at came-is ∙ and-true (came input h)) i) ((rw eu at setpoint-is) i) ((rw eu at silence-is) i) ((rw ef at ifs-then) i)
-      go false eu false ef = λ i. made ((rw eu at came-is ∙ and-true (came input h)) i) ((rw eu at setpoint-is) i) ((rw eu at silence-is) i) ((rw (eu, ef) at ifs-then ∙ and-true (ifs input h)) i)
+      go false eu true ef = λ i. made ((rw eu at came-is ∙ and-true (came d input h)) i) ((rw eu at setpoint-is) i) ((rw eu at silence-is) i) ((rw ef at ifs-then) i)
+      go false eu false ef = λ i. made ((rw eu at came-is ∙ and-true (came d input h)) i) ((rw eu at setpoint-is) i) ((rw eu at silence-is) i) ((rw (eu, ef) at ifs-then ∙ and-true (ifs d input h)) i)
 
 -- ---- a telegram
 
@@ -128,16 +128,17 @@ module _ (h : History Event) (bytes : List ℕ) (l : eqb (length bytes) 5 ≡ tr
     abbrev inputs : Setpoint → Setpoint → AoState
     inputs sp rcasIn = record { out = given 3 h; mode = actual 3 h; operator = operator 3 h; sp = sp; «rcas_in» = rcasIn }
 
-    listened : (sp rcasIn : Setpoint) → sp ≡ inputAt 0 then → rcasIn ≡ inputAt 1 then → inputs sp rcasIn ≡ aoIn then
+    listened : (sp rcasIn : Setpoint) → sp ≡ aoInput 0 then → rcasIn ≡ aoInput 1 then → inputs sp rcasIn ≡ aoIn then
     unfolding operator latest
     listened sp rcasIn e f = ao-left h (telegram input bytes) (λ A f s o. refl) (operator 3 h) sp rcasIn refl e f
 
     -- the input that it came on, and the other one
-    taken : (i : ℕ) → eqb input i ≡ true → inputAfter (inputAt i h) (five bytes) ≡ inputAt i then
-    taken i e = sym (input-heard i h (telegram input bytes) (five bytes) (rw (e, five-is bytes l)) refl refl)
+    taken : (i : ℕ) → eqb input i ≡ true → inputAfter (aoInput i h) (five bytes) ≡ aoInput i then
+    unfolding inputAfter
+    taken i e = ap inputFrom (sym (input-heard analogOut i h (telegram input bytes) (five bytes) (rw (e, five-is bytes l)) refl refl))
 
-    other : (i : ℕ) → eqb input i ≡ false → inputAt i h ≡ inputAt i then
-    other i e = sym (input-still i (telegram input bytes) (rw e) h refl refl)
+    other : (i : ℕ) → eqb input i ≡ false → aoInput i h ≡ aoInput i then
+    other i e = ap inputFrom (sym (input-still analogOut i (telegram input bytes) (rw e) h refl refl))
 
   pub ruled-telegram : (input : ℕ) → input < 2 → telegramOf (deviceOf h) input bytes .device ≡ deviceOf (h ▷ telegram input bytes)
   unfolding Ao.telegramOf takenOn
@@ -150,10 +151,10 @@ module _ (h : History Event) (bytes : List ℕ) (l : eqb (length bytes) 5 ≡ tr
       is i = ap (λ (r : Received). receivedOn (aoIn h) i r .state) (five-is bytes l)
 
       on-sp : takenOn (aoIn h) 0 (five bytes) ≡ aoIn (h ▷ telegram 0 bytes)
-      on-sp = unfold aoIn in listened 0 (inputAfter (inputAt 0 h) (five bytes)) (inputAt 1 h) (taken 0 0 refl) (other 0 1 refl)
+      on-sp = unfold aoIn in listened 0 (inputAfter (aoInput 0 h) (five bytes)) (aoInput 1 h) (taken 0 0 refl) (other 0 1 refl)
 
       on-rcas : takenOn (aoIn h) 1 (five bytes) ≡ aoIn (h ▷ telegram 1 bytes)
-      on-rcas = unfold aoIn in listened 1 (inputAt 0 h) (inputAfter (inputAt 1 h) (five bytes)) (other 1 0 refl) (taken 1 1 refl)
+      on-rcas = unfold aoIn in listened 1 (aoInput 0 h) (inputAfter (aoInput 1 h) (five bytes)) (other 1 0 refl) (taken 1 1 refl)
 
       go : (b : Bool) → eqb input 0 ≡ b → telegramOf (deviceOf h) input bytes .device ≡ deviceOf (h ▷ telegram input bytes)
       go true e = subst (λ (i : ℕ). telegramOf (deviceOf h) i bytes .device ≡ deviceOf (h ▷ telegram i bytes)) (sym (eqb-true input 0 e)) (heard 0 (is 0 ∙ on-sp))
@@ -179,20 +180,21 @@ module _ (h : History Event) where
   unfolding stands since raises clears
   forgotten a = and-false (since (raises a) (clears a) h)
 
-  no-came : (input : ℕ) → came input (h ▷ warmed) ≡ false
-  unfolding came since isUsableOn
-  no-came input = and-false (since (λ h e. isUsableOn input e) (λ h e. isStart e) h)
+  module _ {A : Type 0} (d : Drive A) (input : ℕ) where
+    no-came : came d input (h ▷ warmed) ≡ false
+    unfolding came since isUsableOn
+    no-came = and-false (since (λ h e. isUsableOn d input e) (λ h e. isStart e) h)
 
-  none-ifs : (input : ℕ) → ifs input (h ▷ warmed) ≡ false
-  unfolding ifs since isIfsOn isUsableOn
-  none-ifs input = and-false (since (λ h e. isIfsOn input e) (λ h e. isUsableOn input e || isStart e) h)
+    none-ifs : ifs d input (h ▷ warmed) ≡ false
+    unfolding ifs since isIfsOn isUsableOn
+    none-ifs = and-false (since (λ h e. isIfsOn d input e) (λ h e. isUsableOn d input e || isStart e) h)
 
-  emptied-input : (input : ℕ) → noTelegrams ≡ inputAt input (h ▷ warmed)
-  unfolding noTelegrams emptied inputAt setpoint latest
-  emptied-input input = λ i. made (sym (no-came input) i) (floatOf 0) (silence input (h ▷ warmed)) (sym (none-ifs input) i)
+    emptied-input : emptied (d .zero) ≡ inputAt d input (h ▷ warmed)
+    unfolding emptied inputAt setpoint latest
+    emptied-input = λ i. made (sym no-came i) (d .zero) (silence d input (h ▷ warmed)) (sym none-ifs i)
 
   pub ruled-warm : warmStarted (deviceOf h) ≡ deviceOf (h ▷ warmed)
-  unfolding warmStarted deviceOf aoWarmStarted started stored latest table ainAt totAt aoAt ainIn totIn aoIn stRev count given actual operator filterValue lastUsable rateValue total carried alarmsAt
+  unfolding warmStarted deviceOf aoWarmStarted started noTelegrams stored latest table ainAt totAt aoAt ainIn totIn aoIn stRev count given actual operator filterValue lastUsable rateValue total carried alarmsAt
   ruled-warm = λ i. record {
     «write_locking» = code h 0 18;
     ain = record {
@@ -211,7 +213,7 @@ module _ (h : History Event) where
     tot = record { settings = totAt h; state = record { total = total h; out = held (given 2 h); mode = outOfService; rate = Common.none; «operator_status» = 0x4c }; «st_rev» = stRev h 2 };
     ao = record {
       settings = aoAt h;
-      state = record { out = held (given 3 h); mode = outOfService; operator = pair 0 0x4c; sp = emptied-input 0 i; «rcas_in» = emptied-input 1 i };
+      state = record { out = held (given 3 h); mode = outOfService; operator = pair 0 0x4c; sp = inputFrom (emptied-input analogOut 0 i); «rcas_in» = inputFrom (emptied-input analogOut 1 i) };
       «st_rev» = stRev h 3;
     };
   }

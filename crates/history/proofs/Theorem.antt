@@ -39,7 +39,7 @@ use Rattle.device.specs.Factory.{factoryDevice}
 use Rattle.device.specs.Read.{readOf, wordsOf, ainWords, aoWords}
 use Rattle.device.specs.Calls.{standingOf, writeBy, writeOf, tickOf, telegramOf, loadOf, warmStarted}
 use Rattle.history.specs.Past.{History, start, _▷_, latest, carried, Each}
-use Rattle.history.specs.Calls.{Call, tick, write, load, warmStart, Event, wrote, loaded, seen, fitting, allFit, after, event, reachedFrom, traceFrom, reached, trace}
+use Rattle.history.specs.Calls.{Fed, Seen, Call, tick, write, load, warmStart, Event, wrote, loaded, tickedBy, seenOf, fitting, allFit, after, event, reachedFrom, traceFrom, reached, trace}
 use Rattle.history.specs.Rules.{outputs, among, stored, code, table, toWrite, toTelegram, toLoad, isAccepted, answer, accepted, given, lastOut, oldOut}
 use Rattle.history.specs.Rules as Rules
 use Rattle.history.specs.Claim.{Tick, answers, Claim}
@@ -171,15 +171,15 @@ load-ruled h bytes H = go (toLoad h bytes) refl
     })
     go (Refused r) e = rw (e, load-refused (deviceOf h) bytes r (load-answer h bytes ∙ e)) H
 
-tick-ruled : (h : History Event) (fault : Bool) (ain tot : Pair) → Holds (deviceOf h) h → Holds (after (deviceOf h) (tick fault ain tot)) (h ▷ event (deviceOf h) (tick fault ain tot))
+tick-ruled : (h : History Event) (fault : Bool) (fed : Fed) → Holds (deviceOf h) h → Holds (after (deviceOf h) (tick fault fed)) (h ▷ event (deviceOf h) (tick fault fed))
 unfolding after event readOf entryOf entryIn Table.ain Table.ao wordsOf ainWords aoWords stored latest lastOut carried
-tick-ruled h fault ain tot H = record {
-  ruled = ruled-tick h (H .sound) fault ain tot ainOld aoOld ainOut aoOut order (λ i. ain-given h (H .sound) fault ain tot ainOld aoOld ainOut aoOut order i .bits);
-  ainLast = sym (ain-given h (H .sound) fault ain tot ainOld aoOld ainOut aoOut order);
-  aoLast = sym (ao-given h (H .sound) fault ain tot ainOld aoOld ainOut aoOut order);
+tick-ruled h fault fed H = record {
+  ruled = ruled-tick h (H .sound) fault fed ainOld aoOld seen (λ i. ain-given h (H .sound) fault fed ainOld aoOld seen i .bits);
+  ainLast = sym (ain-given h (H .sound) fault fed ainOld aoOld seen);
+  aoLast = sym (ao-given h (H .sound) fault fed ainOld aoOld seen);
   sound = H .sound;
   tabled = unfold table Rules.tabled in H .tabled;
-  ticks = (H .ticks, record { drive = order-is h (H .sound) fault ain tot ainOld aoOld ainOut aoOut order; quality = good-is h (H .sound) fault ain tot ainOld aoOld ainOut aoOut order });
+  ticks = (H .ticks, record { drive = order-is h (H .sound) fault fed ainOld aoOld seen; quality = good-is h (H .sound) fault fed ainOld aoOld seen });
 }
   where
     ainOld : given 1 h .bits ≡ oldOut 1 h
@@ -188,17 +188,8 @@ tick-ruled h fault ain tot H = record {
     aoOld : given 3 h .bits ≡ oldOut 3 h
     aoOld = unfold oldOut in λ i. H .aoLast i .bits
 
-    next : Device
-    next = tickOf (deviceOf h) fault ain tot .device
-
-    ainOut : Words
-    ainOut = seen (readOf next 1 10)
-
-    aoOut : Words
-    aoOut = seen (readOf next 3 37)
-
-    order : Order
-    order = tickOf (deviceOf h) fault ain tot .order
+    seen : Seen
+    seen = seenOf (tickedBy (deviceOf h) fault fed)
 
 warm-ruled : (h : History Event) → Holds (deviceOf h) h → Holds (warmStarted (deviceOf h)) (h ▷ Event.warmed)
 warm-ruled h H = record {
@@ -213,7 +204,7 @@ warm-ruled h H = record {
 -- each call, from the device by the rules
 call-ruled : (t : History Event) (c : Call) → T (fitting c) → Holds (deviceOf (accepted t)) (accepted t) → Holds (after (deviceOf (accepted t)) c) (accepted (t ▷ event (deviceOf (accepted t)) c))
 unfolding after event accepted
-call-ruled t (tick fault ain tot) fit H = tick-ruled (accepted t) fault ain tot H
+call-ruled t (tick fault fed) fit H = tick-ruled (accepted t) fault fed H
 call-ruled t (Call.telegram input bytes) fit H = telegram-ruled (accepted t) input bytes H
 call-ruled t (write block number a b) fit H = write-ruled (accepted t) block number a b fit H
 call-ruled t (load bytes) fit H = load-ruled (accepted t) bytes H
@@ -257,7 +248,7 @@ telegram-answer d input bytes = go (ltb 1 input) (eqb (length bytes) 5)
 
 next-same : (h : History Event) (c : Call) → hasTable (tableOf (table h)) ≡ Rules.tabled h → answers (deviceOf h) c ≡ answer h (event (deviceOf h) c)
 unfolding event writeOf
-next-same h (tick fault ain tot) e = refl
+next-same h (tick fault fed) e = refl
 next-same h (Call.telegram input bytes) e = telegram-answer (deviceOf h) input bytes
 next-same h (write block number a b) e = write-answer (deviceOf h) block number a b (ground (standingOf (deviceOf h)) block number a b) ∙ write-same h block number a b e
 next-same h (load bytes) e = load-answer h bytes

@@ -24,7 +24,9 @@ use Rattle.tot.specs.declared.State.{State as TotState}
 use Rattle.tot.specs.Tick as Tot
 use Rattle.ao.specs.declared.State.{State as AoState}
 use Rattle.ao.specs.declared.Order.{Order}
-use Rattle.ao.specs.FailSafe.{GivenOf, scaledOr, leadsTo, byMode, caseOf, Case, following, fallback, held, nothingHeld, safety, failSafeActs, failSafeCase, silenceAfter, afterTick}
+use Rattle.ao.specs.FailSafe as FailSafe
+use Rattle.ao.specs.State.{inputFrom}
+use Rattle.ao.specs.FailSafe.{OrderOf, GivenOf, scaledOr, leadsTo, byMode, caseOf, Case, following, fallback, held, nothingHeld, safety, failSafeActs, failSafeCase, silenceAfter, afterTick}
 use Rattle.ao.specs.Tick as Ao
 use Rattle.ao.specs.Laws.{stopped-decides}
 use Rattle.parameters.specs.declared.Words.{Words}
@@ -35,11 +37,11 @@ use Rattle.parameters.specs.Words.{allowsOf}
 use Rattle.device.specs.declared.Device.{Device}
 use Rattle.device.specs.Calls.{tickOf}
 use Rattle.history.specs.Past.{History, _▷_, count, countSince, since, latest, carried}
-use Rattle.history.specs.Calls.{Event, ticked}
-use Rattle.history.specs.Rules.{pair, isAuto, calculated, stored, code, float, scale, table, outOfService, man, auto, rcas, stRev, modeAt, actual, operator, oldOut, filterValue, lastUsable, Alarm, hiHi, hi, lo, loLo, stands, raises, clears, ainGives, rateValue, total, totGives, came, setpoint, silence, ifs, isFailSafe, isUsableOn, Given, positioned, aoScaled, working, aoFailSafe, aoBy, aoGives, order, given}
+use Rattle.history.specs.Calls.{Fed, Seen, Event, ticked, tickedBy}
+use Rattle.history.specs.Rules.{pair, isAuto, calculated, stored, code, float, scale, table, outOfService, man, auto, rcas, stRev, modeAt, actual, operator, oldOut, filterValue, lastUsable, analogIn, ainSensed, senses, Alarm, hiHi, hi, lo, loLo, stands, raises, clears, rateValue, total, totGives, Drive, analogOut, came, setpoint, silence, ifs, isFailSafe, isUsableOn, Move, Given, positioned, workedOr, aoScaled, aoWorked, working, drivenFailSafe, drivenBy, drives, driven, analogOrder, order, given}
 use Rattle.history.specs.Rules as Rules
 use Rattle.history.specs.Claim.{good}
-use Rattle.history.proofs.Ruled.{keptOf, inputAt, alarmsAt, ainAt, totAt, aoAt, ainIn, totIn, aoIn, deviceOf, came-same, ifs-same, setpoint-same}
+use Rattle.history.proofs.Ruled.{keptOf, inputAt, aoInput, alarmsAt, ainAt, totAt, aoAt, ainIn, totIn, aoIn, deviceOf, cond-ap, came-same, ifs-same, setpoint-same}
 use Rattle.history.proofs.Sound.{Sound}
 use Rattle.history.proofs.Ticks.{calculated-is, IsMode, IsAoMode, target, ao-target, mode, ao-mode, ain-is, tot-is}
 
@@ -69,74 +71,148 @@ module _ (h : History Event) (S : Sound h) where
 -- ---- alarms
 
 -- one alarm by the rules, over a tick with its OUT
-module _ (a : Alarm) (h : History Event) (fault : Bool) (ain tot : Pair) (ainOut aoOut : Words) (order : Order) where
+module _ (a : Alarm) (h : History Event) (fault : Bool) (fed : Fed) (seen : Seen) where
   abbrev then : History Event
-  then = h ▷ ticked fault ain tot ainOut aoOut order
+  then = h ▷ ticked fault fed seen
 
-  alarm-then : stands a then ≡ cond (eqb (modeAt h fault 1) outOfService) false (alarmStands (a .low) (stands a h) (floatOf (stored h 1 (a .limit) .first)) (floatOf (stored h 1 19 .first)) (floatOf (ainOut .first)))
+  alarm-then : stands a then ≡ cond (eqb (modeAt h fault 1) outOfService) false (alarmStands (a .low) (stands a h) (floatOf (stored h 1 (a .limit) .first)) (floatOf (stored h 1 19 .first)) (floatOf (seen .ain .first)))
   unfolding stands since raises clears alarmStands rises falls
   alarm-then = go (eqb (modeAt h fault 1) outOfService) (since (raises a) (clears a) h)
     where
       r : Bool
-      r = rises (a .low) (floatOf (stored h 1 (a .limit) .first)) (floatOf (ainOut .first))
+      r = rises (a .low) (floatOf (stored h 1 (a .limit) .first)) (floatOf (seen .ain .first))
 
       f : Bool
-      f = falls (a .low) (floatOf (stored h 1 (a .limit) .first)) (floatOf (stored h 1 19 .first)) (floatOf (ainOut .first))
+      f = falls (a .low) (floatOf (stored h 1 (a .limit) .first)) (floatOf (stored h 1 19 .first)) (floatOf (seen .ain .first))
 
       go : (b stood : Bool) → (not b && r || (stood && not (b || f))) ≡ cond b false (r || (stood && not f))
       go true true = refl
       go true false = refl
       go false stood = refl
 
-pub alarms-then : (h : History Event) (fault : Bool) (ain tot : Pair) (ainOut aoOut : Words) (order : Order)
-    → cond (eqb (modeAt h fault 1) outOfService) noAlarms (alarmsOf (ainAt h) (alarmsAt h) (floatOf (ainOut .first))) ≡ alarmsAt (h ▷ ticked fault ain tot ainOut aoOut order)
+pub alarms-then : (h : History Event) (fault : Bool) (fed : Fed) (seen : Seen)
+    → cond (eqb (modeAt h fault 1) outOfService) noAlarms (alarmsOf (ainAt h) (alarmsAt h) (floatOf (seen .ain .first))) ≡ alarmsAt (h ▷ ticked fault fed seen)
 unfolding alarmsOf alarmsAt ainAt
-alarms-then h fault ain tot ainOut aoOut order = go (eqb (modeAt h fault 1) outOfService) refl
+alarms-then h fault fed seen = go (eqb (modeAt h fault 1) outOfService) refl
   where
-    at : (a : Alarm) (b : Bool) → eqb (modeAt h fault 1) outOfService ≡ b → cond b false (alarmStands (a .low) (stands a h) (floatOf (stored h 1 (a .limit) .first)) (floatOf (stored h 1 19 .first)) (floatOf (ainOut .first))) ≡ stands a (h ▷ ticked fault ain tot ainOut aoOut order)
-    at a b e = sym (alarm-then a h fault ain tot ainOut aoOut order ∙ ap (λ (x : Bool). cond x false (alarmStands (a .low) (stands a h) (floatOf (stored h 1 (a .limit) .first)) (floatOf (stored h 1 19 .first)) (floatOf (ainOut .first)))) e)
+    at : (a : Alarm) (b : Bool) → eqb (modeAt h fault 1) outOfService ≡ b → cond b false (alarmStands (a .low) (stands a h) (floatOf (stored h 1 (a .limit) .first)) (floatOf (stored h 1 19 .first)) (floatOf (seen .ain .first))) ≡ stands a (h ▷ ticked fault fed seen)
+    at a b e = sym (alarm-then a h fault fed seen ∙ ap (λ (x : Bool). cond x false (alarmStands (a .low) (stands a h) (floatOf (stored h 1 (a .limit) .first)) (floatOf (stored h 1 19 .first)) (floatOf (seen .ain .first)))) e)
 
-    go : (b : Bool) → eqb (modeAt h fault 1) outOfService ≡ b → cond b noAlarms (alarmsOf (ainAt h) (alarmsAt h) (floatOf (ainOut .first))) ≡ alarmsAt (h ▷ ticked fault ain tot ainOut aoOut order)
+    go : (b : Bool) → eqb (modeAt h fault 1) outOfService ≡ b → cond b noAlarms (alarmsOf (ainAt h) (alarmsAt h) (floatOf (seen .ain .first))) ≡ alarmsAt (h ▷ ticked fault fed seen)
     go true e = λ i. record { «hi_hi» = at hiHi true e i; hi = at hi true e i; lo = at lo true e i; «lo_lo» = at loLo true e i }
     go false e = λ i. record { «hi_hi» = at hiHi false e i; hi = at hi false e i; lo = at lo false e i; «lo_lo» = at loLo false e i }
 
--- ---- AO's inputs
+-- ---- setpoint inputs
 
-module _ (input : ℕ) (h : History Event) (fault : Bool) (ain tot : Pair) (ainOut aoOut : Words) (order : Order) where
+-- the count that stops, over one more tick
+stops : (b : Bool) (n : ℕ) → cond b (min (cond b (min n 65536) 0 + 1) 65536) 0 ≡ cond b (min (n + 1) 65536) 0
+stops true n = omega arith
+stops false n = refl
+
+module _ {A : Type 0} (d : Drive A) (input : ℕ) (h : History Event) (fault : Bool) (fed : Fed) (seen : Seen) where
   abbrev e : Event
-  e = ticked fault ain tot ainOut aoOut order
+  e = ticked fault fed seen
 
-  counted : silence input h + 1 ≡ silence input (h ▷ e)
+  counted : silence d input h + 1 ≡ silence d input (h ▷ e)
   unfolding silence countSince isUsableOn
   counted = refl
 
-  -- the count that stops, over one more tick
-  stops : (b : Bool) (n : ℕ) → cond b (min (cond b (min n 65536) 0 + 1) 65536) 0 ≡ cond b (min (n + 1) 65536) 0
-  stops true n = omega arith
-  stops false n = refl
+  same-came : came d input h ≡ came d input (h ▷ e)
+  same-came = sym (came-same d input e refl h refl)
 
-  same-came : came input h ≡ came input (h ▷ e)
-  same-came = sym (came-same input e refl h refl)
-
-  pub input-then : Ao.inputAfterTick (inputAt input h) ≡ inputAt input (h ▷ e)
+  pub input-then : afterTick (inputAt d input h) ≡ inputAt d input (h ▷ e)
   unfolding inputAt afterTick silenceAfter
   input-then = λ i. record {
     some = same-came i;
-    value = sym (setpoint-same input e refl h refl) i;
-    silence = (stops (came input h) (silence input h) ∙ (λ j. cond (same-came j) (min (counted j) 65536) 0)) i;
-    ifs = sym (ifs-same input e refl h refl) i;
+    value = sym (setpoint-same d input e refl h refl) i;
+    silence = (stops (came d input h) (silence d input h) ∙ (λ j. cond (same-came j) (min (counted j) 65536) 0)) i;
+    ifs = sym (ifs-same d input e refl h refl) i;
   }
 
--- ---- what AO gives
+-- ---- what an output block gives
 
 -- as the rules have it
+abbrev moved : OrderOf ℕ → Move
+moved (FailSafe.position bits) = Rules.position bits
+moved FailSafe.safe = Rules.safe
+moved FailSafe.rest = Rules.rest
+
 abbrev shown : GivenOf ℕ → Given
-shown g = record { out = pair (g .value) (g .status); order = Ao.driveOrder (g .order) }
+shown g = record { out = pair (g .value) (g .status); move = moved (g .order) }
 
 -- the decision by the count that stops is that by n
 acts-same : (came : Bool) (n : ℕ) (ifs : Bool) (time : ℕ) → time ≤ 65535 → failSafeActs came (cond came (min n 65536) 0) ifs time ≡ failSafeActs came n ifs time
 acts-same true n ifs time h = stopped-decides true n ifs time h
 acts-same false n ifs time h = unfold failSafeActs in refl
+
+module _ {A : Type 0} (d : Drive A) (h : History Event) where
+  abbrev B : ℕ
+  B = d .block
+
+  working-is : (w : A) (status : ℕ) → shown (scaledOr (oldOut B h) status (d .worked h w)) ≡ working d h w status
+  unfolding working
+  working-is w status = go (d .worked h w)
+    where
+      go : (o : Option ℕ) → shown (scaledOr (oldOut B h) status o) ≡ workedOr (oldOut B h) status o
+      go none = refl
+      go (some bits) = refl
+
+  -- by the input in use, with old OUT
+  abbrev ledBy : ℕ → ℕ → GivenOf ℕ
+  ledBy old input = leadsTo (d .worked h) old (caseOf (code h B (d .time)) (code h B (d .kind)) (d .fallback h) (inputAt d input h))
+
+  -- and in a tick's actual mode, from the pair last given
+  module _ (fault : Bool) where
+    abbrev m : ℕ
+    m = modeAt h fault B
+
+    abbrev all : GivenOf ℕ
+    all = byMode m (given B h .bits) (operator B h .bits) (operator B h .status) (ledBy (given B h .bits) (cond (eqb m rcas) (d .rcasIn) (d .sp)))
+
+    -- by the rules: O/S holds the pair, at Rest
+    abbrev by-rules : Given
+    by-rules = cond (eqb m outOfService) (record { out = Rules.held (given B h); move = Rules.rest }) (drives d h fault)
+
+  module _ (small : code h B (d .time) ≤ 65535) where
+    by-input : (input : ℕ) → shown (ledBy (oldOut B h) input) ≡ drivenBy d input h
+    unfolding leadsTo caseOf failSafeCase drivenBy drivenFailSafe isFailSafe failSafeActs inputAt
+    by-input input =
+        ap (λ (f : Bool). led f (eqb (code h B (d .kind)) 0) (eqb (code h B (d .kind)) 1) (came d input h)) (acts-same (came d input h) (silence d input h) (ifs d input h) (code h B (d .time)) small)
+        ∙ go (isFailSafe d input h) (eqb (code h B (d .kind)) 0) (eqb (code h B (d .kind)) 1) (came d input h)
+      where
+        led : (f a b c : Bool) → Given
+        led f a b c = shown (leadsTo (d .worked h) (oldOut B h) (cond f (cond a (fallback (d .fallback h)) (cond b (cond c (held (setpoint d input h)) nothingHeld) safety)) (following (setpoint d input h))))
+
+        go : (f a b c : Bool) → led f a b c ≡ cond f (cond a (working d h (d .fallback h) 0x48) (cond b (cond c (working d h (setpoint d input h) 0x44) (positioned (oldOut B h) 0x4c)) (record { out = pair (oldOut B h) 0x00; move = Rules.safe }))) (working d h (setpoint d input h) 0x80)
+        go false a b c = working-is (setpoint d input h) 0x80
+        go true true b c = working-is (d .fallback h) 0x48
+        go true false true true = working-is (setpoint d input h) 0x44
+        go true false true false = refl
+        go true false false c = refl
+
+    module _ (fault : Bool) (old : given B h .bits ≡ oldOut B h) where
+      given-is : IsAoMode (m fault) → shown (all fault) ≡ by-rules fault
+      unfolding byMode drives
+      given-is = go
+        where
+          by-old : (input : ℕ) → shown (ledBy (given B h .bits) input) ≡ drivenBy d input h
+          by-old input = ap (λ (bits : ℕ). shown (ledBy bits input)) old ∙ by-input input
+
+          go : IsAoMode (m fault) → shown (all fault) ≡ by-rules fault
+          go (inl (inl e)) = rw e
+          go (inl (inr (inl e))) = rw e
+          go (inl (inr (inr e))) = rw e (by-old (d .sp))
+          go (inr e) = rw e (by-old (d .rcasIn))
+
+      -- the pair, and the order
+      pub out-is : IsAoMode (m fault) → pair (all fault .value) (all fault .status) ≡ cond (eqb (m fault) outOfService) (Rules.held (given B h)) (drives d h fault .out)
+      out-is is-mode = ap (λ (g : Given). g .out) (given-is is-mode) ∙ cond-ap (λ (g : Given). g .out) (eqb (m fault) outOfService) _ _
+
+      pub move-is : IsAoMode (m fault) → moved (all fault .order) ≡ driven d h fault
+      unfolding driven
+      move-is is-mode = ap (λ (g : Given). g .move) (given-is is-mode) ∙ cond-ap (λ (g : Given). g .move) (eqb (m fault) outOfService) _ _
+
+-- ---- AO
 
 module _ (h : History Event) where
   -- O9: the 1 that a fraction is taken from
@@ -148,112 +224,84 @@ module _ (h : History Event) where
   unfolding Ao.scaledOut aoScaled aoAt
   scaled-is w = ap (λ (one : Float). atFraction (scale h 3 38) (cond (eqb (code h 3 36) 1) (sub binary32 one (fractionOf (scale h 3 11) w)) (fractionOf (scale h 3 11) w))) one-is
 
-  working-is : (w : Float) (status : ℕ) → shown (scaledOr (oldOut 3 h) status (Ao.outOf (aoAt h) w)) ≡ working h w status
-  unfolding Ao.outOf working
-  working-is w status = ap (λ (x : Float). shown (scaledOr (oldOut 3 h) status (cond (finite x) (some (bitsOf x)) none))) (scaled-is w) ∙ go (finite (aoScaled h w))
+  ao-worked : (w : Float) → Ao.outOf (aoAt h) w ≡ aoWorked h w
+  unfolding Ao.outOf aoWorked
+  ao-worked w = ap (λ (x : Float). cond (finite x) (some (bitsOf x)) none) (scaled-is w)
+
+  -- what AO's tick gives, in the rules' terms
+  ao-all : (fault : Bool) → Ao.givenIn (aoAt h) (aoIn h) (modeAt h fault 3) ≡ all analogOut h fault
+  unfolding Ao.givenIn Ao.givenByInput Ao.givenBy Ao.inputUsed aoIn aoAt
+  ao-all fault = (λ i. byMode (modeAt h fault 3) (given 3 h .bits) (operator 3 h .bits) (operator 3 h .status)
+      (leadsTo (λ w. ao-worked w i) (given 3 h .bits) (Ao.caseBy (aoAt h) (cond (eqb (modeAt h fault 3) rcas) (aoInput 1 h) (aoInput 0 h)))))
+      ∙ go (eqb (modeAt h fault 3) rcas)
     where
-      go : (f : Bool) → shown (scaledOr (oldOut 3 h) status (cond f (some (bitsOf (aoScaled h w))) none)) ≡ cond f (positioned (bitsOf (aoScaled h w)) status) (positioned (oldOut 3 h) 0x04)
+      go : (r : Bool) → byMode (modeAt h fault 3) (given 3 h .bits) (operator 3 h .bits) (operator 3 h .status) (leadsTo (aoWorked h) (given 3 h .bits) (Ao.caseBy (aoAt h) (cond r (aoInput 1 h) (aoInput 0 h))))
+          ≡ byMode (modeAt h fault 3) (given 3 h .bits) (operator 3 h .bits) (operator 3 h .status) (ledBy analogOut h (given 3 h .bits) (cond r 1 0))
       go true = refl
       go false = refl
 
-  -- in Auto and RCas, by the input in use
-  by-input : (input : ℕ) → code h 3 23 ≤ 65535 → shown (Ao.givenByInput (aoAt h) (oldOut 3 h) (inputAt input h)) ≡ aoBy input h
-  unfolding Ao.givenByInput Ao.givenBy leadsTo caseOf failSafeCase aoBy aoFailSafe isFailSafe failSafeActs inputAt aoAt
-  by-input input small =
-      ap (λ (f : Bool). led f (eqb (code h 3 24) 0) (eqb (code h 3 24) 1) (came input h)) (acts-same (came input h) (silence input h) (ifs input h) (code h 3 23) small)
-      ∙ go (isFailSafe input h) (eqb (code h 3 24) 0) (eqb (code h 3 24) 1) (came input h)
-    where
-      led : (f a b c : Bool) → Given
-      led f a b c = shown (leadsTo (Ao.outOf (aoAt h)) (oldOut 3 h) (cond f (cond a (fallback (float h 3 25)) (cond b (cond c (held (setpoint input h)) nothingHeld) safety)) (following (setpoint input h))))
-
-      go : (f a b c : Bool) → led f a b c ≡ cond f (cond a (working h (float h 3 25) 0x48) (cond b (cond c (working h (setpoint input h) 0x44) (positioned (oldOut 3 h) 0x4c)) (record { out = pair (oldOut 3 h) 0x00; order = Order.Safe }))) (working h (setpoint input h) 0x80)
-      go false a b c = working-is (setpoint input h) 0x80
-      go true true b c = working-is (float h 3 25) 0x48
-      go true false true true = working-is (setpoint input h) 0x44
-      go true false true false = refl
-      go true false false c = refl
-
-  module _ (S : Sound h) (fault : Bool) (old : given 3 h .bits ≡ oldOut 3 h) where
-    abbrev m : ℕ
-    m = modeAt h fault 3
-
-    -- in every mode
-    pub given-is : shown (Ao.givenIn (aoAt h) (aoIn h) m) ≡ cond (eqb m outOfService) (record { out = Rules.held (given 3 h); order = Order.Rest }) (aoGives h fault)
-    unfolding Ao.givenIn byMode aoGives aoIn Ao.inputUsed
-    given-is = go (ao-mode-at h S fault)
-      where
-        by-old : (input : ℕ) → shown (Ao.givenByInput (aoAt h) (given 3 h .bits) (inputAt input h)) ≡ aoBy input h
-        by-old input = ap (λ (bits : ℕ). shown (Ao.givenByInput (aoAt h) bits (inputAt input h))) old ∙ by-input input (time-small h S)
-
-        go : IsAoMode m → shown (Ao.givenIn (aoAt h) (aoIn h) m) ≡ cond (eqb m outOfService) (record { out = Rules.held (given 3 h); order = Order.Rest }) (aoGives h fault)
-        go (inl (inl e)) = rw e
-        go (inl (inr (inl e))) = rw e
-        go (inl (inr (inr e))) = rw e (by-old 0)
-        go (inr e) = rw e (by-old 1)
+-- an order as the tick answers it
+order-same : (o : OrderOf ℕ) → Ao.driveOrder o ≡ analogOrder (moved o)
+order-same (FailSafe.position bits) = refl
+order-same FailSafe.safe = refl
+order-same FailSafe.rest = refl
 
 -- ---- the tick
 
-module _ (h : History Event) (S : Sound h) (fault : Bool) (ain tot : Pair) (ainOld : given 1 h .bits ≡ oldOut 1 h) (aoOld : given 3 h .bits ≡ oldOut 3 h) where
+module _ (h : History Event) (S : Sound h) (fault : Bool) (fed : Fed) (ainOld : given 1 h .bits ≡ oldOut 1 h) (aoOld : given 3 h .bits ≡ oldOut 3 h) where
   abbrev pub next : Device
-  next = tickOf (deviceOf h) fault ain tot .device
+  next = tickedBy (deviceOf h) fault fed .device
 
-  module _ (ainOut aoOut : Words) (given-order : Order) where
+  module _ (seen : Seen) where
     abbrev after : History Event
-    after = h ▷ ticked fault ain tot ainOut aoOut given-order
+    after = h ▷ ticked fault fed seen
 
     -- the pairs given, whatever the reads say
     pub ain-given : next .ain .state .out ≡ given 1 after
     unfolding tickOf deviceOf Ain.tickOf actualMode modeAt ainAt given carried
-    ain-given = ap (λ (x : AinState). x .out) (ain-is h ain ainOld fault (ain-mode h S fault))
+    ain-given = ap (λ (x : AinState). x .out) (ain-is h fed ainOld fault (ain-mode h S fault))
 
     pub ao-given : next .ao .state .out ≡ given 3 after
     unfolding tickOf deviceOf Ao.tickOf Ao.tickedWith actualMode modeAt aoAt given carried
-    ao-given = ap (λ (g : Given). g .out) (given-is h S fault aoOld) ∙ go (eqb (modeAt h fault 3) outOfService)
-      where
-        go : (b : Bool) → cond b (record { out = Rules.held (given 3 h); order = Order.Rest }) (aoGives h fault) .out ≡ cond b (Rules.held (given 3 h)) (aoGives h fault .out)
-        go true = refl
-        go false = refl
+    ao-given = ap (λ (g : GivenOf ℕ). pair (g .value) (g .status)) (ao-all h fault) ∙ out-is analogOut h (time-small h S) fault aoOld (ao-mode-at h S fault)
 
-    pub order-is : tickOf (deviceOf h) fault ain tot .order ≡ order h fault
+    pub order-is : tickedBy (deviceOf h) fault fed .order ≡ order h fault
     unfolding tickOf deviceOf Ao.tickOf Ao.tickedWith actualMode modeAt aoAt order
-    order-is = ap (λ (g : Given). g .order) (given-is h S fault aoOld) ∙ go (eqb (modeAt h fault 3) outOfService)
-      where
-        go : (b : Bool) → cond b (record { out = Rules.held (given 3 h); order = Order.Rest }) (aoGives h fault) .order ≡ cond b Order.Rest (aoGives h fault .order)
-        go true = refl
-        go false = refl
+    order-is = ap (λ (g : GivenOf ℕ). Ao.driveOrder (g .order)) (ao-all h fault) ∙ order-same (all analogOut h fault .order)
+        ∙ ap analogOrder (move-is analogOut h (time-small h S) fault aoOld (ao-mode-at h S fault))
 
-    pub good-is : T (isAuto h fault 1) → good (next .ain .state .out .status) ≡ (good (ain .status) && finite (calculated h (filterValue h) ain))
+    pub good-is : T (isAuto h fault 1) → good (next .ain .state .out .status) ≡ (good (fed .ain .status) && finite (calculated h (filterValue h) (fed .ain)))
     unfolding tickOf deviceOf Ain.tickOf actualMode modeAt ainAt
     good-is t =
-        ap (λ (m : ℕ). good (Ain.tickBy (ainAt h) (tableOf (table h)) (ainIn h) m (ain .bits) (ain .status) .out .status)) (eqb→eq (modeAt h fault 1) auto t)
-        ∙ (unfold Ain.tickBy in good-exactly (ainAt h) (tableOf (table h)) (ainIn h) auto (ain .bits) (ain .status))
-        ∙ (unfold ainIn in ap (λ (x : Float). good (ain .status) && finite x) (calculated-is h ain (filterValue h)))
+        ap (λ (m : ℕ). good (Ain.tickBy (ainAt h) (tableOf (table h)) (ainIn h) m (fed .ain .bits) (fed .ain .status) .out .status)) (eqb→eq (modeAt h fault 1) auto t)
+        ∙ (unfold Ain.tickBy in good-exactly (ainAt h) (tableOf (table h)) (ainIn h) auto (fed .ain .bits) (fed .ain .status))
+        ∙ (unfold ainIn in ap (λ (x : Float). good (fed .ain .status) && finite x) (calculated-is h fed (filterValue h)))
 
     -- the alarms go by the OUT that is read
-    module _ (ainRead : ainOut .first ≡ given 1 after .bits) where
-      alarms-next : cond (eqb (modeAt h fault 1) outOfService) noAlarms (alarmsOf (ainAt h) (alarmsAt h) (floatOf (ainGives h fault ain .bits))) ≡ alarmsAt after
+    module _ (ainRead : seen .ain .first ≡ given 1 after .bits) where
+      alarms-next : cond (eqb (modeAt h fault 1) outOfService) noAlarms (alarmsOf (ainAt h) (alarmsAt h) (floatOf (senses analogIn h fault fed .bits))) ≡ alarmsAt after
       unfolding given carried
-      alarms-next = go (eqb (modeAt h fault 1) outOfService) ainRead ∙ alarms-then h fault ain tot ainOut aoOut given-order
+      alarms-next = go (eqb (modeAt h fault 1) outOfService) ainRead ∙ alarms-then h fault fed seen
         where
-          go : (b : Bool) → ainOut .first ≡ cond b (Rules.held (given 1 h)) (ainGives h fault ain) .bits
-              → cond b noAlarms (alarmsOf (ainAt h) (alarmsAt h) (floatOf (ainGives h fault ain .bits))) ≡ cond b noAlarms (alarmsOf (ainAt h) (alarmsAt h) (floatOf (ainOut .first)))
+          go : (b : Bool) → seen .ain .first ≡ cond b (Rules.held (given 1 h)) (senses analogIn h fault fed) .bits
+              → cond b noAlarms (alarmsOf (ainAt h) (alarmsAt h) (floatOf (senses analogIn h fault fed .bits))) ≡ cond b noAlarms (alarmsOf (ainAt h) (alarmsAt h) (floatOf (seen .ain .first)))
           go true e = refl
           go false e = ap (λ (bits : ℕ). alarmsOf (ainAt h) (alarmsAt h) (floatOf bits)) (sym e)
 
       ain-then : next .ain .state ≡ ainIn after
       unfolding tickOf deviceOf Ain.tickOf actualMode modeAt ainAt
-      ain-then = ain-is h ain ainOld fault (ain-mode h S fault) ∙ (unfold ainIn given actual operator latest filterValue lastUsable carried in (λ i. record {
+      ain-then = ain-is h fed ainOld fault (ain-mode h S fault) ∙ (unfold ainIn ainSensed given actual operator latest filterValue lastUsable carried in (λ i. record {
         out = given 1 after;
         mode = modeAt h fault 1;
         filter = keptOf (filterValue after);
-        last = keptOf (lastUsable after);
+        last = keptOf (lastUsable analogIn after);
         operator = operator 1 h;
         alarms = alarms-next i;
       }))
 
       tot-then : next .tot .state ≡ totIn after
       unfolding tickOf deviceOf Tot.tickOf actualMode modeAt totAt totIn given actual operator latest rateValue total carried
-      tot-then = tot-is h tot (set-small h S) fault (tot-mode h S fault)
+      tot-then = tot-is h (fed .tot) (set-small h S) fault (tot-mode h S fault)
 
       ao-then : next .ao .state ≡ aoIn after
       unfolding tickOf deviceOf Ao.tickOf Ao.tickedWith actualMode modeAt aoAt aoIn actual operator latest carried
@@ -261,11 +309,11 @@ module _ (h : History Event) (S : Sound h) (fault : Bool) (ain tot : Pair) (ainO
         out = ao-given i;
         mode = modeAt h fault 3;
         operator = operator 3 h;
-        sp = input-then 0 h fault ain tot ainOut aoOut given-order i;
-        «rcas_in» = input-then 1 h fault ain tot ainOut aoOut given-order i;
+        sp = inputFrom (input-then analogOut 0 h fault fed seen i);
+        «rcas_in» = inputFrom (input-then analogOut 1 h fault fed seen i);
       }
 
-      pub ruled-tick : tickOf (deviceOf h) fault ain tot .device ≡ deviceOf (h ▷ ticked fault ain tot ainOut aoOut given-order)
+      pub ruled-tick : next ≡ deviceOf after
       unfolding tickOf deviceOf stored latest table ainAt totAt aoAt stRev count
       ruled-tick = λ i. record {
         «write_locking» = code h 0 18;

@@ -33,8 +33,8 @@ use Rattle.tot.specs.declared.State.{State as TotState}
 use Rattle.tot.specs.Total.{incrementOf, wanted, nextTotal, valueGiven, givenBits, thousandthsOf, sumOf}
 use Rattle.tot.specs.Tick as Tot
 use Rattle.history.specs.Past.{History}
-use Rattle.history.specs.Calls.{Event}
-use Rattle.history.specs.Rules.{pair, code, float, scale, table, outOfService, man, auto, rcas, modeAt, operator, oldOut, badStatus, ifUsable, scaled, calculated, ainBad, filterValue, lastUsable, stands, standsWith, alarmed, ainFailSafe, ainAuto, ainGives, totBad, rateValue, wantedBy, addedRate, adds, totalBy, total, totStatus, totGives, given, held}
+use Rattle.history.specs.Calls.{Fed, Event}
+use Rattle.history.specs.Rules.{pair, code, float, scale, table, outOfService, man, auto, rcas, modeAt, operator, oldOut, badStatus, ifUsable, scaled, calculated, ainBad, filterValue, lastUsable, analogIn, ainSensed, stands, standsWith, alarmed, lastOr, wordOr, sensedFailSafe, sensedAuto, senses, totBad, rateValue, wantedBy, addedRate, adds, totalBy, total, totStatus, totGives, given, held}
 use Rattle.history.proofs.Loads.{measured-is}
 use Rattle.history.proofs.Ruled.{keptOf, alarmsAt, ainAt, ainIn, totAt, totIn}
 
@@ -125,7 +125,10 @@ first-way : {A : Type 0} (b : Bool) (x y : A) → cond (b || false) x y ≡ cond
 first-way true x y = refl
 first-way false x y = refl
 
-module _ (h : History Event) (ain : Pair) where
+module _ (h : History Event) (fed : Fed) where
+  abbrev ain : Pair
+  ain = fed .ain
+
   abbrev tableAt : Table
   tableAt = tableOf (table h)
 
@@ -153,24 +156,20 @@ module _ (h : History Event) (ain : Pair) where
   auto-is m = ap (Ain.autoBy (ainAt h) tableAt (ainIn h) m (ain .bits) (ain .status)) (input-is (filterValue h))
 
   module _ (old : given 1 h .bits ≡ oldOut 1 h) where
-    fail-safe-is : (bad : ℕ) → Ain.failSafeOut (code h 1 17) (float h 1 18) (keptOf (lastUsable h)) (scaled h ain) (given 1 h) bad ≡ ainFailSafe h ain bad
-    unfolding Ain.failSafeOut ainFailSafe
-    fail-safe-is bad = ap (λ (bits : ℕ). byOld bits) old ∙ go (eqb (code h 1 17) 0) (eqb (code h 1 17) 1) (lastUsable h) (finite (scaled h ain))
+    fail-safe-is : (bad : ℕ) → Ain.failSafeOut (code h 1 17) (float h 1 18) (keptOf (lastUsable analogIn h)) (scaled h ain) (given 1 h) bad ≡ sensedFailSafe analogIn h (ainSensed h fed .comes) bad
+    unfolding Ain.failSafeOut sensedFailSafe ainSensed
+    fail-safe-is bad = ap (λ (bits : ℕ). byOld bits) old ∙ go (eqb (code h 1 17) 0) (eqb (code h 1 17) 1) (lastUsable analogIn h) (finite (scaled h ain))
       where
         byOld : ℕ → Pair
         byOld bits =
             cond (eqb (code h 1 17) 0) (pair (bitsOf (float h 1 18)) 0x48)
             (cond (eqb (code h 1 17) 1)
-            (cond (keptOf (lastUsable h) .some) (pair (bitsOf (keptOf (lastUsable h) .value)) 0x44) (pair 0 0x4c))
+            (cond (keptOf (lastUsable analogIn h) .some) (pair (bitsOf (keptOf (lastUsable analogIn h) .value)) 0x44) (pair 0 0x4c))
             (cond (finite (scaled h ain)) (pair (bitsOf (scaled h ain)) bad) (pair bits bad)))
-
-        last : Option Float → Pair
-        last none = pair 0 0x4c
-        last (some x) = pair (bitsOf x) 0x44
 
         go : (a b : Bool) (o : Option Float) (f : Bool)
             → cond a (pair (bitsOf (float h 1 18)) 0x48) (cond b (cond (keptOf o .some) (pair (bitsOf (keptOf o .value)) 0x44) (pair 0 0x4c)) (cond f (pair (bitsOf (scaled h ain)) bad) (pair (oldOut 1 h) bad)))
-            ≡ cond a (pair (bitsOf (float h 1 18)) 0x48) (cond b (last o) (pair (cond f (bitsOf (scaled h ain)) (oldOut 1 h)) bad))
+            ≡ cond a (pair (bitsOf (float h 1 18)) 0x48) (cond b (lastOr analogIn o) (pair (wordOr analogIn (oldOut 1 h) (cond f (some (scaled h ain)) none)) bad))
         go true b o f = refl
         go false true none f = refl
         go false true (some x) f = refl
@@ -180,16 +179,16 @@ module _ (h : History Event) (ain : Pair) where
     -- an Auto tick in the rules' terms
     abbrev worked : ℕ → Option ℕ → AinState
     worked m bad = record {
-      out = ainAuto h ain bad;
+      out = sensedAuto analogIn h (ainSensed h fed) bad;
       mode = m;
       filter = keptOf (ifUsable bad (some (calculated h (filterValue h) ain)) (filterValue h));
-      last = keptOf (ifUsable bad (some (calculated h (filterValue h) ain)) (lastUsable h));
+      last = keptOf (ifUsable bad (some (calculated h (filterValue h) ain)) (lastUsable analogIn h));
       operator = operator 1 h;
-      alarms = alarmsOf (ainAt h) (alarmsAt h) (floatOf (ainAuto h ain bad .bits));
+      alarms = alarmsOf (ainAt h) (alarmsAt h) (floatOf (sensedAuto analogIn h (ainSensed h fed) bad .bits));
     }
 
     usable-is : (m : ℕ) → byBad m none ≡ worked m none
-    unfolding Ain.autoBy Ain.usableTick ainAt ainIn alarmsAt alarmsOf alarmStands rises falls alarmStatus alarmed standsWith
+    unfolding Ain.autoBy Ain.usableTick ainSensed ainAt ainIn alarmsAt alarmsOf alarmStands rises falls alarmStatus alarmed standsWith
     usable-is m = λ i. record {
       out = pair (bitsOf (calculated-is (filterValue h) i)) (alarmed h (bitsOf (calculated-is (filterValue h) i)) (ain .status));
       mode = m;
@@ -205,7 +204,7 @@ module _ (h : History Event) (ain : Pair) where
       out = fail-safe-is bad i;
       mode = m;
       filter = keptOf (filterValue h);
-      last = keptOf (lastUsable h);
+      last = keptOf (lastUsable analogIn h);
       operator = operator 1 h;
       alarms = alarmsOf (ainAt h) (alarmsAt h) (floatOf (fail-safe-is bad i .bits));
     }
@@ -236,14 +235,14 @@ module _ (h : History Event) (ain : Pair) where
 
       -- the whole tick, in its actual mode
       pub ain-is : IsMode (modeAt h fault 1) → ainTick ≡ record {
-        out = cond (eqb (modeAt h fault 1) outOfService) (held (given 1 h)) (ainGives h fault ain);
+        out = cond (eqb (modeAt h fault 1) outOfService) (held (given 1 h)) (senses analogIn h fault fed);
         mode = modeAt h fault 1;
         filter = keptOf (cond (eqb (modeAt h fault 1) auto) (ifUsable (ainBad h (filterValue h) ain) (some (calculated h (filterValue h) ain)) (filterValue h)) none);
-        last = keptOf (cond (eqb (modeAt h fault 1) auto) (ifUsable (ainBad h (filterValue h) ain) (some (calculated h (filterValue h) ain)) (lastUsable h)) (lastUsable h));
+        last = keptOf (cond (eqb (modeAt h fault 1) auto) (ifUsable (ainBad h (filterValue h) ain) (some (calculated h (filterValue h) ain)) (lastUsable analogIn h)) (lastUsable analogIn h));
         operator = operator 1 h;
-        alarms = cond (eqb (modeAt h fault 1) outOfService) noAlarms (alarmsOf (ainAt h) (alarmsAt h) (floatOf (ainGives h fault ain .bits)));
+        alarms = cond (eqb (modeAt h fault 1) outOfService) noAlarms (alarmsOf (ainAt h) (alarmsAt h) (floatOf (senses analogIn h fault fed .bits)));
       }
-      unfolding ainGives ainIn Ain.manTick Ain.outOfServiceTick
+      unfolding senses ainSensed ainIn Ain.manTick Ain.outOfServiceTick
       ain-is (inl e) = ain-out e ∙ sym (rw e)
       ain-is (inr (inl e)) = ain-man e ∙ sym (rw e)
       ain-is (inr (inr e)) = ain-auto e ∙ sym (rw e)

@@ -8,6 +8,7 @@ use Rattle.wire.specs.declared.Pair.{Pair}
 use Rattle.ao.specs.declared.Order.{Order}
 use Rattle.parameters.specs.declared.Words.{Words}
 use Rattle.device.specs.declared.Device.{Device}
+use Rattle.device.specs.declared.Ticked.{Ticked}
 use Rattle.device.specs.declared.Reading.{Reading}
 use Rattle.device.specs.declared.Reading.the-variants.{Read, Refused}
 use Rattle.device.specs.Factory.{factoryDevice}
@@ -15,9 +16,14 @@ use Rattle.device.specs.Read.{readOf}
 use Rattle.device.specs.Calls.{writeOf, tickOf, telegramOf, loadOf, warmStarted}
 use Rattle.history.specs.Past.{History, start, _▷_}
 
+-- C2: what a tick is fed beside the fault flag: the transducers' pairs for AIN and TOT
+pub record Fed : Type 0 where
+  pub ain : Pair
+  pub tot : Pair
+
 -- C2, C5 to C7, Q1.9b: a call with its arguments (reads move nothing and are left out)
 pub data Call : Type 0 where
-  tick : Bool → Pair → Pair → Call
+  tick : Bool → Fed → Call
   telegram : ℕ → List ℕ → Call
   write : ℕ → ℕ → ℕ → ℕ → Call
   load : List ℕ → Call
@@ -25,7 +31,7 @@ pub data Call : Type 0 where
 
 -- C6: the words of a write have 32 bits
 abbrev pub fitting : Call → Bool
-fitting (tick fault ain tot) = true
+fitting (tick fault fed) = true
 fitting (telegram input bytes) = true
 fitting (write block number a b) = ltb a (2 ^ 32) && ltb b (2 ^ 32)
 fitting (load bytes) = true
@@ -35,9 +41,15 @@ abbrev pub allFit : List Call → Bool
 allFit [] = true
 allFit (c ∷ cs) = fitting c && allFit cs
 
--- R2: what the rules see of a call: its arguments; of a tick also OUT of AIN and of AO as read after it, and its answer, the drive order
+-- R2: what is seen of a tick beside its arguments: OUT of AIN and of AO as read after it, and its answer, the drive order
+pub record Seen : Type 0 where
+  pub ain : Words
+  pub ao : Words
+  pub order : Order
+
+-- R2: what the rules see of a call
 pub data Event : Type 0 where
-  ticked : Bool → Pair → Pair → Words → Words → Order → Event
+  ticked : Bool → Fed → Seen → Event
   telegram : ℕ → List ℕ → Event
   wrote : ℕ → ℕ → ℕ → ℕ → Event
   loaded : List ℕ → Event
@@ -46,13 +58,20 @@ pub data Event : Type 0 where
 abbrev pub words : ℕ → ℕ → Words
 words a b = record { first = a; second = b }
 
-abbrev pub seen : Reading → Words
-seen (Read w) = w
-seen (Refused r) = words 0 0
+abbrev pub read : Reading → Words
+read (Read w) = w
+read (Refused r) = words 0 0
+
+-- a tick of a device, and what is seen of it
+abbrev pub tickedBy : Device → Bool → Fed → Ticked
+tickedBy d fault fed = tickOf d fault (fed .ain) (fed .tot)
+
+abbrev pub seenOf : Ticked → Seen
+seenOf t = record { ain = read (readOf (t .device) 1 10); ao = read (readOf (t .device) 3 37); order = t .order }
 
 -- the device after a call, and what is seen of the call
 unfoldable pub after : Device → Call → Device
-after d (tick fault ain tot) = tickOf d fault ain tot .device
+after d (tick fault fed) = tickedBy d fault fed .device
 after d (telegram input bytes) = telegramOf d input bytes .device
 after d (write block number a b) = writeOf d block number a b .device
 after d (load bytes) = loadOf d bytes .device
@@ -60,9 +79,7 @@ after d warmStart = warmStarted d
 
 unfoldable pub event : Device → Call → Event
 unfolding after
-event d (tick fault ain tot) =
-    ticked fault ain tot (seen (readOf (tickOf d fault ain tot .device) 1 10)) (seen (readOf (tickOf d fault ain tot .device) 3 37))
-    (tickOf d fault ain tot .order)
+event d (tick fault fed) = ticked fault fed (seenOf (tickedBy d fault fed))
 event d (telegram input bytes) = Event.telegram input bytes
 event d (write block number a b) = wrote block number a b
 event d (load bytes) = loaded bytes

@@ -23,13 +23,12 @@ use Rattle.wire.specs.declared.Answer.the-variants.{Accepted}
 use Rattle.wire.specs.Bytes.{fiveBytes, pairOf}
 use Rattle.wire.specs.Image.{partOf, partPlace}
 use Rattle.tot.specs.Total.{incrementOf, thousandthsOf, sumOf, valueGiven}
-use Rattle.ao.specs.declared.Order.{Order}
 use Rattle.parameters.specs.declared.Words.{Words}
 use Rattle.parameters.specs.declared.Class.{Class}
 use Rattle.parameters.specs.declared.Class.the-variants.{S, N, D, R}
 use Rattle.parameters.specs.Table.{Row, rowsOf, entryOf}
 use Rattle.history.specs.Past.{History, start, _▷_}
-use Rattle.history.specs.Calls.{Event, ticked, wrote, loaded, words}
+use Rattle.history.specs.Calls.{Fed, Seen, Event, ticked, wrote, loaded, words}
 use Rattle.history.specs.Rules.{pair, refused, allowedIn, among, statics, kepts, outputs, readOnlys, defaults, orZeros, toWrite, scaled, calculated}
 use Rattle.history.specs.Rules.{linear, toLoad, hi, standsWith, aoScaled, given}
 
@@ -179,6 +178,9 @@ abbrev filters : History Event
 filters = start ▷ wrote 1 11 0 0x4280_0000 ▷ wrote 1 12 0 0x4280_0000 ▷ wrote 1 16 0x3f00_0000 0
 
 -- HI_LIM 80
+abbrev reads : Words → Seen → Seen
+reads out seen = record { ain = out; ao = seen .ao; order = seen .order }
+
 abbrev limited : History Event
 limited = start ▷ wrote 1 23 0x42a0_0000 0
 
@@ -217,12 +219,12 @@ numbered n = answerNumber (refused n)
 pub record Cited : Type 0 where
   -- B, C and D once more, of the rules' own words, whatever else the ticks carry: PV_SCALE 4, 20 and input 12 give 50 with 0x80; a filter step is `down`
   -- and `up` below; OUT 80 raises HI, after it 79.5 keeps it and 79.25 clears it
-  pub measured : (tot : Pair) (w x : Words) (o : Order)
-      → given 1 (start ▷ wrote 1 11 0x4080_0000 0x41a0_0000 ▷ ticked false (pair 0x4140_0000 0x80) tot w x o) ≡ pair 0x4248_0000 0x80
-  pub alarm : (ain tot : Pair) (status : ℕ) (x : Words) (o : Order)
+  pub measured : (tot : Pair) (seen : Seen)
+      → given 1 (start ▷ wrote 1 11 0x4080_0000 0x41a0_0000 ▷ ticked false (record { ain = pair 0x4140_0000 0x80; tot = tot }) seen) ≡ pair 0x4248_0000 0x80
+  pub alarm : (fed : Fed) (status : ℕ) (seen : Seen)
       → (standsWith hi limited 0x42a0_0000 ≡ true)
-      × (standsWith hi (limited ▷ ticked false ain tot (words 0x42a0_0000 status) x o) 0x429f_0000 ≡ true)
-      × (standsWith hi (limited ▷ ticked false ain tot (words 0x42a0_0000 status) x o) 0x429e_8000 ≡ false)
+      × (standsWith hi (limited ▷ ticked false fed (reads (words 0x42a0_0000 status) seen)) 0x429f_0000 ≡ true)
+      × (standsWith hi (limited ▷ ticked false fed (reads (words 0x42a0_0000 status) seen)) 0x429e_8000 ≡ false)
   -- A1, O9: the formulas of scaling
   pub fraction : (low high x : Float) → fractionOf (record { low = low; high = high }) x ≡ div binary32 (sub binary32 x low) (sub binary32 high low)
   pub place : (low high f : Float) → atFraction (record { low = low; high = high }) f ≡ add binary32 (mul binary32 f (sub binary32 high low)) low

@@ -5,18 +5,15 @@ use mathlib.Core.Bool.{Bool, _&&_}
 use mathlib.Core.List.{List}
 use lib.Dec.{T, eqb}
 use lib.Ieee.Scale.{finite}
-use Rattle.wire.specs.declared.Pair.{Pair}
 use Rattle.wire.specs.declared.Answer.{Answer}
 use Rattle.wire.specs.declared.Answer.the-variants.{Accepted}
 use Rattle.wire.specs.Status.{qualityOf}
 use Rattle.wire.specs.Image.{imageAnswer, imageBytes}
-use Rattle.ao.specs.declared.Order.{Order}
-use Rattle.parameters.specs.declared.Words.{Words}
 use Rattle.device.specs.declared.Device.{Device}
 use Rattle.device.specs.Read.{readOf}
 use Rattle.device.specs.Calls.{telegramOf, writeOf, loadOf}
 use Rattle.history.specs.Past.{History, Each}
-use Rattle.history.specs.Calls.{Call, tick, write, load, warmStart, Event, ticked, telegram, wrote, loaded, warmed, event, reached, trace}
+use Rattle.history.specs.Calls.{Fed, Seen, Call, tick, write, load, warmStart, Event, ticked, telegram, wrote, loaded, warmed, event, reached, trace}
 use Rattle.history.specs.Rules.{isAuto, answer, accepted, calculated, filterValue, total, order, reading, toImage, image}
 
 -- R8: Good is quality 2, and not 3
@@ -24,14 +21,14 @@ abbrev pub good : ℕ → Bool
 good status = eqb (qualityOf status) 2
 
 -- what is claimed of a tick, by the accepted events before it
-pub record TickClaim (h : History Event) (fault : Bool) (ain : Pair) (ainOut : Words) (given : Order) : Type 0 where
+pub record TickClaim (h : History Event) (fault : Bool) (fed : Fed) (seen : Seen) : Type 0 where
   -- C3: its drive order, in every mode
-  pub drive : given ≡ order h fault
+  pub drive : seen .order ≡ order h fault
   -- R8: in Auto AIN is Good exactly when its input was and the calculated value is finite
-  pub quality : T (isAuto h fault 1) → good (ainOut .second) ≡ (good (ain .status) && finite (calculated h (filterValue h) ain))
+  pub quality : T (isAuto h fault 1) → good (seen .ain .second) ≡ (good (fed .ain .status) && finite (calculated h (filterValue h) (fed .ain)))
 
 abbrev pub Tick : History Event → Event → Type 0
-Tick h (ticked fault ain tot ainOut aoOut given) = TickClaim h fault ain ainOut given
+Tick h (ticked fault fed seen) = TickClaim h fault fed seen
 Tick h (telegram input bytes) = Unit
 Tick h (wrote block number a b) = Unit
 Tick h (loaded bytes) = Unit
@@ -39,7 +36,7 @@ Tick h warmed = Unit
 
 -- what a device answers a call; ticks and warm starts have no answer to refuse with and count as accepted
 abbrev pub answers : Device → Call → Answer
-answers d (tick fault ain tot) = Accepted
+answers d (tick fault fed) = Accepted
 answers d (Call.telegram input bytes) = telegramOf d input bytes .answer
 answers d (write block number a b) = writeOf d block number a b .answer
 answers d (load bytes) = loadOf d bytes .answer

@@ -91,7 +91,7 @@ isMalformed Malformed = true
 -- the call that it is; a telegram's bytes start ten places on, a load's nine
 abbrev pub callOf : List ℕ → ℕ → Step → Call
 callOf s at WarmStart = Call.warmStart
-callOf s at (Tick fault ain tot) = Call.tick fault ain tot
+callOf s at (Tick fault ain tot) = Call.tick fault (record { ain = ain; tot = tot })
 callOf s at (Write block number a b) = Call.write block number a b
 callOf s at (Telegram input n) = Call.telegram input (take n (drop (at + 10) s))
 callOf s at (Load n) = Call.load (take n (drop (at + 9) s))

@@ -12,12 +12,10 @@ use Rattle.wire.specs.declared.Pair.{Pair}
 use Rattle.wire.specs.declared.Answer.the-variants.{Accepted}
 use Rattle.blocks.specs.Common.{actualMode, operatorAfter}
 use Rattle.ain.specs.Tick as Ain
-use Rattle.ao.specs.declared.Order.{Order}
 use Rattle.ao.specs.declared.Order.the-variants.{Position}
 use Rattle.ao.specs.State.{operatedBy}
 use Rattle.ao.specs.FailSafe.{byMode}
 use Rattle.ao.specs.Tick as Ao
-use Rattle.parameters.specs.declared.Words.{Words}
 use Rattle.parameters.specs.Table.{ain, ao, entryIn, entryOf}
 use Rattle.parameters.specs.Refused.{targetIn}
 use Rattle.parameters.specs.Laws.{by-block}
@@ -30,8 +28,8 @@ use Rattle.device.specs.Calls.{standingOf, writeOf, tickOf}
 use Rattle.device.specs.Laws.{stored}
 use Rattle.history.specs.Past.{History, _▷_, carried}
 use Rattle.history.specs.PastLaws.{From, here, later, latest-holds}
-use Rattle.history.specs.Calls.{Event, ticked, telegram, wrote, loaded, warmed}
-use Rattle.history.specs.Rules.{isTick, isStart, pair, code, man, modeAt, lastOut, handed, orElse, operator, ainGives, aoGives, order, given}
+use Rattle.history.specs.Calls.{Fed, Seen, Event, ticked, telegram, wrote, loaded, warmed}
+use Rattle.history.specs.Rules.{isTick, isStart, pair, code, man, modeAt, lastOut, handed, orElse, operator, senses, drives, driven, analogOut, order, given, outNumber}
 
 -- Of AIN and AO.
 abbrev pub Analog : ℕ → Type 0
@@ -62,13 +60,13 @@ module _ (block : ℕ) (analog : Analog block) where
       ap (orElse (pair 0 0x4c)) (latest-holds (handed block) isStart h (wrote block 5 man b) (lastOut block h) h′ refl (entry h b other) f)
 
   -- A9, O11: a Man tick gives the operator's pair
-  man-gives : (h : History Event) (fault : Bool) (ain tot : Pair) (ainOut aoOut : Words) (answer : Order) → modeAt h fault block ≡ man
-      → given block (h ▷ ticked fault ain tot ainOut aoOut answer) ≡ operator block h
-  unfolding given carried ainGives aoGives
-  man-gives h fault ain tot ainOut aoOut answer = go analog
+  man-gives : (h : History Event) (fault : Bool) (fed : Fed) (seen : Seen) → modeAt h fault block ≡ man
+      → given block (h ▷ ticked fault fed seen) ≡ operator block h
+  unfolding given carried senses drives
+  man-gives h fault fed seen = go analog
     where
       Gives : ℕ → Type 0
-      Gives block = modeAt h fault block ≡ man → given block (h ▷ ticked fault ain tot ainOut aoOut answer) ≡ operator block h
+      Gives block = modeAt h fault block ≡ man → given block (h ▷ ticked fault fed seen) ≡ operator block h
 
       go : Analog block → Gives block
       go (inl e) = subst Gives (sym e) (λ m. rw m)
@@ -76,9 +74,9 @@ module _ (block : ℕ) (analog : Analog block) where
 
   -- Q2.4, no jump: with nothing written between, a Man tick after the entry gives the value and status last given before it
   pub no-jump : (h h′ : History Event) (b : ℕ) → eqb (code h block 5) man ≡ false → From (HandsNothing block) (h ▷ wrote block 5 man b) h′
-      → (fault : Bool) (ain tot : Pair) (ainOut aoOut : Words) (answer : Order) → modeAt h′ fault block ≡ man
-      → given block (h′ ▷ ticked fault ain tot ainOut aoOut answer) ≡ lastOut block h
-  no-jump h h′ b other f fault ain tot ainOut aoOut answer m = man-gives h′ fault ain tot ainOut aoOut answer m ∙ entered h h′ b other f
+      → (fault : Bool) (fed : Fed) (seen : Seen) → modeAt h′ fault block ≡ man
+      → given block (h′ ▷ ticked fault fed seen) ≡ lastOut block h
+  no-jump h h′ b other f fault fed seen m = man-gives h′ fault fed seen m ∙ entered h h′ b other f
 
   -- what was last given moves with ticks and starts alone
   last-still : (h h′ : History Event) → From NoTickNoStart h h′ → lastOut block h′ ≡ lastOut block h
@@ -87,7 +85,7 @@ module _ (block : ℕ) (analog : Analog block) where
   last-still h h′ (later {h = p} {e = e} f c) = go e c ∙ last-still h p f
     where
       go : (e : Event) → NoTickNoStart p e → lastOut block (p ▷ e) ≡ lastOut block p
-      go (ticked fault ain tot ainOut aoOut answer) c = absurd (true≢false (c .0))
+      go (ticked fault fed seen) c = absurd (true≢false (c .0))
       go (telegram input bytes) c = refl
       go (wrote block′ number a b) c = refl
       go (loaded bytes) c = refl
@@ -101,24 +99,20 @@ module _ (block : ℕ) (analog : Analog block) where
 -- Q2.4, no jump of the valve: the Man tick orders it to stay where it was
 pub no-move : (h h′ : History Event) (b : ℕ) → eqb (code h 3 5) man ≡ false → From (HandsNothing 3) (h ▷ wrote 3 5 man b) h′
     → (fault : Bool) → modeAt h′ fault 3 ≡ man → order h′ fault ≡ Position (floatOf (lastOut 3 h .bits))
-unfolding order aoGives
+unfolding order driven drives
 no-move h h′ b other f fault m = rw m (ap (λ (p : Pair). Position (floatOf (p .bits))) (entered 3 (inr refl) h h′ b other f))
 
 -- ---- of every device, by its reads
 
--- OUT of AIN and of AO
-abbrev pub outOf : ℕ → ℕ
-outOf block = cond (eqb block 3) 37 10
-
 -- Q2.4, no jump: where a write changes the target of AIN or AO to Man from another, a tick without the fault flag then reads as OUT did before both
 pub man-stands : (d : Device) (b : ℕ) (x y : Pair) (block : ℕ) → T (eqb block 1 || eqb block 3) → eqb (targetIn (standingOf d) block) man ≡ false
     → writeOf d block 5 man b .answer ≡ Accepted
-    → readOf (tickOf (writeOf d block 5 man b .device) false x y .device) block (outOf block) ≡ readOf d block (outOf block)
+    → readOf (tickOf (writeOf d block 5 man b .device) false x y .device) block (outNumber block) ≡ readOf d block (outNumber block)
 unfolding readOf wordsOf ainWords aoWords entryOf entryIn ain ao targetIn
 man-stands d b x y =
     by-block
     (λ (block : ℕ). T (eqb block 1 || eqb block 3) → eqb (targetIn (standingOf d) block) man ≡ false → writeOf d block 5 man b .answer ≡ Accepted
-    → readOf (tickOf (writeOf d block 5 man b .device) false x y .device) block (outOf block) ≡ readOf d block (outOf block))
+    → readOf (tickOf (writeOf d block 5 man b .device) false x y .device) block (outNumber block) ≡ readOf d block (outNumber block))
     (λ t. absurd t)
     (λ t other e. ap (λ (p : Pair). Read (Reads.given p)) (ain-stands other e))
     (λ t. absurd t)

@@ -13,11 +13,9 @@ use Rattle.blocks.specs.Common.{kept}
 use Rattle.ain.specs.Scaling.{scaledOf, filtered}
 use Rattle.ain.specs.Alarm.{alarmStands}
 use Rattle.tot.specs.Total.{incrementOf, valueGiven}
-use Rattle.ao.specs.declared.Order.{Order}
-use Rattle.parameters.specs.declared.Words.{Words}
 use Rattle.history.specs.Past.{History, start, _▷_}
-use Rattle.history.specs.Calls.{tick, write, reached, Event, ticked, telegram, wrote}
-use Rattle.history.specs.Rules.{isFailSafe, accepted, stRev}
+use Rattle.history.specs.Calls.{Fed, Seen, tick, write, reached, Event, ticked, telegram, wrote}
+use Rattle.history.specs.Rules.{isFailSafe, analogOut, accepted, stRev}
 
 -- a whole number as a float
 abbrev whole : ℕ → Float
@@ -37,7 +35,7 @@ pub record Points : Type 0 where
   pub a : (qualityOf 0x4e ≡ 1) × (subStatusOf 0x4e ≡ 3) × (limitsOf 0x4e ≡ 2)
   -- K2: an input at half of PV_SCALE, as bytes on the bus
   pub b : (tot : Pair)
-      → fiveBytes (reached (write 1 11 0x4080_0000 0x41a0_0000 ∷ tick false (record { bits = 0x4140_0000; status = 0x80 }) tot ∷ []) .ain .state .out)
+      → fiveBytes (reached (write 1 11 0x4080_0000 0x41a0_0000 ∷ tick false (record { ain = record { bits = 0x4140_0000; status = 0x80 }; tot = tot }) ∷ []) .ain .state .out)
       ≡ 0x42 ∷ 0x48 ∷ 0x00 ∷ 0x00 ∷ 0x80 ∷ []
   -- K3: a filter step by a sixteenth
   pub c : filtered (floatOf 0x3fc0_0000) (kept (whole 0))
@@ -52,10 +50,10 @@ pub record Points : Type 0 where
   -- K7: the 25th bit of a total is not given
   pub g : valueGiven (pos 16_777_217) ≡ div binary32 (whole 16_777_216) (whole 1000)
   -- K8: under FSAFE_TIME 2 three ticks follow a usable telegram and the fourth is fail-safe, whatever else the ticks carry
-  pub h : (fault₁ fault₂ fault₃ : Bool) (ain₁ ain₂ ain₃ tot₁ tot₂ tot₃ : Pair) (w₁ w₂ w₃ x₁ x₂ x₃ : Words) (o₁ o₂ o₃ : Order)
-      → (isFailSafe 0 setpoint50 ≡ false)
-      × (isFailSafe 0 (setpoint50 ▷ ticked fault₁ ain₁ tot₁ w₁ x₁ o₁) ≡ false)
-      × (isFailSafe 0 (setpoint50 ▷ ticked fault₁ ain₁ tot₁ w₁ x₁ o₁ ▷ ticked fault₂ ain₂ tot₂ w₂ x₂ o₂) ≡ false)
-      × (isFailSafe 0 (setpoint50 ▷ ticked fault₁ ain₁ tot₁ w₁ x₁ o₁ ▷ ticked fault₂ ain₂ tot₂ w₂ x₂ o₂ ▷ ticked fault₃ ain₃ tot₃ w₃ x₃ o₃) ≡ true)
+  pub h : (fault₁ fault₂ fault₃ : Bool) (fed₁ fed₂ fed₃ : Fed) (seen₁ seen₂ seen₃ : Seen)
+      → (isFailSafe analogOut 0 setpoint50 ≡ false)
+      × (isFailSafe analogOut 0 (setpoint50 ▷ ticked fault₁ fed₁ seen₁) ≡ false)
+      × (isFailSafe analogOut 0 (setpoint50 ▷ ticked fault₁ fed₁ seen₁ ▷ ticked fault₂ fed₂ seen₂) ≡ false)
+      × (isFailSafe analogOut 0 (setpoint50 ▷ ticked fault₁ fed₁ seen₁ ▷ ticked fault₂ fed₂ seen₂ ▷ ticked fault₃ fed₃ seen₃) ≡ true)
   -- K9: as many static writes as ST_REV has values, all the same: they are accepted, and ST_REV is 0 again
   pub i : (accepted (again 65536 (wrote 1 17 1 0) start) ≡ again 65536 (wrote 1 17 1 0) start) × (stRev (again 65536 (wrote 1 17 1 0) start) 1 ≡ 0)

@@ -35,12 +35,12 @@ use Rattle.parameters.specs.Words.{allowsOf}
 use Rattle.device.specs.declared.Reading.{Reading}
 use Rattle.device.specs.declared.Reading.the-variants.{Read}
 use Rattle.history.specs.Past.{History, start, _▷_, count, countSince, since, told, latest, carried}
-use Rattle.history.specs.Calls.{Event, ticked, telegram, wrote, loaded, warmed, words}
+use Rattle.history.specs.Calls.{Fed, Seen, Event, ticked, telegram, wrote, loaded, warmed, words}
 
 -- ---- the kinds of events
 
 abbrev pub isTick : Event → Bool
-isTick (ticked fault ain tot ainOut aoOut order) = true
+isTick (ticked fault fed seen) = true
 isTick (telegram input bytes) = false
 isTick (wrote block number a b) = false
 isTick (loaded bytes) = false
@@ -48,15 +48,15 @@ isTick warmed = false
 
 -- R5: the factory call starts a history, and a warm start starts it anew
 abbrev pub isStart : Event → Bool
-isStart (ticked fault ain tot ainOut aoOut order) = false
+isStart (ticked fault fed seen) = false
 isStart (telegram input bytes) = false
 isStart (wrote block number a b) = false
 isStart (loaded bytes) = false
 isStart warmed = true
 
 -- what a tick, a start and any other event lead to
-abbrev pub onTick : {A : Type 0} → (Bool → Pair → Pair → Words → Words → A) → A → A → Event → A
-onTick f s other (ticked fault ain tot ainOut aoOut order) = f fault ain tot ainOut aoOut
+abbrev pub onTick : {A : Type 0} → (Bool → Fed → Seen → A) → A → A → Event → A
+onTick f s other (ticked fault fed seen) = f fault fed seen
 onTick f s other (telegram input bytes) = other
 onTick f s other (wrote block number a b) = other
 onTick f s other (loaded bytes) = other
@@ -119,7 +119,7 @@ orZeros (d ∷ ds) number = cond (eqb number (d .number)) (d .stands) (orZeros d
 
 -- the words that an event writes to a parameter
 abbrev pub wordsTo : ℕ → ℕ → Event → Option Words
-wordsTo block number (ticked fault ain tot ainOut aoOut order) = none
+wordsTo block number (ticked fault fed seen) = none
 wordsTo block number (telegram input bytes) = none
 wordsTo block number (wrote block′ number′ a b) = cond (eqb block′ block && eqb number′ number) (some (words a b)) none
 wordsTo block number (loaded bytes) = none
@@ -150,7 +150,7 @@ scale h block number = record { low = floatOf (stored h block number .first); hi
 
 -- the pairs that a load brings
 abbrev pub pairsTold : Event → Option (List Point)
-pairsTold (ticked fault ain tot ainOut aoOut order) = none
+pairsTold (ticked fault fed seen) = none
 pairsTold (telegram input bytes) = none
 pairsTold (wrote block number a b) = none
 pairsTold (loaded bytes) = some (pairsIn bytes)
@@ -215,7 +215,7 @@ isAuto h fault block = eqb (modeAt h fault block) auto
 
 -- M1, M3: the actual mode is that of the last tick since start; before one it is O/S
 unfoldable pub actual : ℕ → History Event → ℕ
-actual block = carried outOfService (λ h e old. onTick (λ fault ain tot ainOut aoOut. modeAt h fault block) outOfService old e)
+actual block = carried outOfService (λ h e old. onTick (λ fault fed seen. modeAt h fault block) outOfService old e)
 
 -- ---- refused calls
 
@@ -271,7 +271,7 @@ toLoad h bytes =
 
 -- what a call is answered, by the events accepted before it; no ground is met by a tick or a warm start
 abbrev pub answer : History Event → Event → Answer
-answer h (ticked fault ain tot ainOut aoOut order) = Accepted
+answer h (ticked fault fed seen) = Accepted
 answer h (telegram input bytes) = toTelegram input bytes
 answer h (wrote block number a b) = toWrite h block number a b
 answer h (loaded bytes) = toLoad h bytes
@@ -289,7 +289,7 @@ accepted (h ▷ e) = cond (isAccepted (answer (accepted h) e)) (accepted h ▷ e
 -- ---- ST_REV
 
 abbrev pub isStaticWrite : ℕ → Event → Bool
-isStaticWrite block (ticked fault ain tot ainOut aoOut order) = false
+isStaticWrite block (ticked fault fed seen) = false
 isStaticWrite block (telegram input bytes) = false
 isStaticWrite block (wrote block′ number a b) = eqb block′ block && among (statics block) number
 isStaticWrite block (loaded bytes) = eqb block 1
@@ -305,11 +305,15 @@ stRev h block = count (isStaticWrite block) h % 65536
 abbrev pub held : Pair → Pair
 held p = pair (p .bits) 0x1f
 
+-- OUT of a block as read after a tick; asked of AIN and AO alone
+abbrev pub outIn : Seen → ℕ → Words
+outIn seen block = cond (eqb block 1) (seen .ain) (seen .ao)
+
 -- R6: what AIN and AO last gave, as the read of OUT after the last tick has it; at first 0, held at a start
 unfoldable pub lastOut : ℕ → History Event → Pair
 lastOut block =
     carried (pair 0 0x1f)
-    (λ h e old. onTick (λ fault ain tot ainOut aoOut. let out = cond (eqb block 1) ainOut aoOut in pair (out .first) (out .second)) (held old) old e)
+    (λ h e old. onTick (λ fault fed seen. pair (outIn seen block .first) (outIn seen block .second)) (held old) old e)
 
 -- R6: old OUT is its value
 unfoldable pub oldOut : ℕ → History Event → ℕ
@@ -319,14 +323,18 @@ oldOut block h = lastOut block h .bits
 abbrev pub entersMan : ℕ → ℕ → ℕ → Bool
 entersMan block before after = not (eqb block 2) && not (eqb before man) && eqb after man
 
--- P15: the pair that an event makes the operator's: the words of a write of OUT or TOTAL (10, in AO 37); Q2.4: at a write of the target that enters Man what
+-- the number of OUT, and of TOTAL
+abbrev pub outNumber : ℕ → ℕ
+outNumber block = cond (eqb block 3) 37 10
+
+-- P15: the pair that an event makes the operator's: the words of a write of OUT or TOTAL; Q2.4: at a write of the target that enters Man what
 -- was last given before it
 abbrev pub handed : ℕ → History Event → Event → Option Pair
-handed block h (ticked fault ain tot ainOut aoOut order) = none
+handed block h (ticked fault fed seen) = none
 handed block h (telegram input bytes) = none
 handed block h (wrote block′ number a b) =
     cond (not (eqb block′ block)) none
-    (cond (eqb number (cond (eqb block 3) 37 10)) (some (pair a b))
+    (cond (eqb number (outNumber block)) (some (pair a b))
     (cond (eqb number 5 && entersMan block (code h block 5) a) (some (lastOut block h)) none))
 handed block h (loaded bytes) = none
 handed block h warmed = none
@@ -350,6 +358,59 @@ badStatus status value calculated =
 abbrev pub ifUsable : {A : Type 0} → Option ℕ → A → A → A
 ifUsable none a other = a
 ifUsable (some bad) a other = other
+
+-- ---- an input block, over the type A of its values
+
+-- what a tick makes of the transducer's pair: its Bad status, none where it is usable; the value calculated; the value as it comes, which FSAFE_TYPE 2
+-- gives, if there is one; the status of a usable tick
+pub record Sensed (A : Type 0) : Type 0 where
+  pub bad : Option ℕ
+  pub value : A
+  pub comes : Option A
+  pub status : ℕ
+
+-- a block: its number, FSAFE_TYPE's number, FSAFE_VALUE, a value as the word that reads give, and what a tick makes of its pair
+pub record Sensor (A : Type 0) : Type 0 where
+  pub block : ℕ
+  pub kind : ℕ
+  pub fallback : History Event → A
+  pub word : A → ℕ
+  pub sensed : History Event → Fed → Sensed A
+
+module _ {A : Type 0} (s : Sensor A) where
+  -- A8, R7: what the latest usable Auto tick since start calculated, whatever the modes of later ticks
+  unfoldable pub lastUsable : History Event → Option A
+  lastUsable =
+      carried none
+      (λ h e old. onTick
+      (λ fault fed seen. cond (isAuto h fault (s .block)) (ifUsable (s .sensed h fed .bad) (some (s .sensed h fed .value)) old) old)
+      none old e)
+
+  -- A8: the word of a value, or another word without one
+  abbrev pub wordOr : ℕ → Option A → ℕ
+  wordOr other none = other
+  wordOr other (some x) = s .word x
+
+  -- A8: the value that was last usable with 0x44, and 0 with 0x4C without one
+  abbrev pub lastOr : Option A → Pair
+  lastOr none = pair 0 0x4c
+  lastOr (some x) = pair (s .word x) 0x44
+
+  -- A8: an Auto tick that isn't usable, by FSAFE_TYPE: 0 gives FSAFE_VALUE with 0x48; 1 the value that was last usable; 2 gives the value as it comes,
+  -- or old OUT without one, with the Bad status
+  unfoldable pub sensedFailSafe : History Event → Option A → ℕ → Pair
+  sensedFailSafe h comes bad =
+      cond (eqb (code h (s .block) (s .kind)) 0) (pair (s .word (s .fallback h)) 0x48)
+      (cond (eqb (code h (s .block) (s .kind)) 1) (lastOr (lastUsable h)) (pair (wordOr (oldOut (s .block) h) comes) bad))
+
+  -- A7, A8: in Auto the calculated value where the input is usable, else the fail-safe
+  abbrev pub sensedAuto : History Event → Sensed A → Option ℕ → Pair
+  sensedAuto h x none = pair (s .word (x .value)) (x .status)
+  sensedAuto h x (some bad) = sensedFailSafe h (x .comes) bad
+
+  -- A7, A9: what the block gives in Auto, and in Man: the operator's pair
+  unfoldable pub senses : History Event → Bool → Fed → Pair
+  senses h fault fed = cond (isAuto h fault (s .block)) (sensedAuto h (s .sensed h fed) (s .sensed h fed .bad)) (operator (s .block) h)
 
 -- ---- AIN
 
@@ -382,15 +443,7 @@ unfoldable pub filterValue : History Event → Option Float
 filterValue =
     carried none
     (λ h e old. onTick
-    (λ fault ain tot ainOut aoOut. cond (isAuto h fault 1) (ifUsable (ainBad h old ain) (some (calculated h old ain)) old) none)
-    none old e)
-
--- A8, R7: what the latest usable Auto tick since start calculated, whatever the modes of later ticks
-unfoldable pub lastUsable : History Event → Option Float
-lastUsable =
-    carried none
-    (λ h e old. onTick
-    (λ fault ain tot ainOut aoOut. cond (isAuto h fault 1) (ifUsable (ainBad h (filterValue h) ain) (some (calculated h (filterValue h) ain)) old) old)
+    (λ fault fed seen. cond (isAuto h fault 1) (ifUsable (ainBad h old (fed .ain)) (some (calculated h old (fed .ain))) old) none)
     none old e)
 
 -- an alarm: whether it is a low one, and its limit's parameter
@@ -425,11 +478,11 @@ leftBy a h bits = leaves (a .low) (float h 1 (a .limit)) (float h 1 19) (floatOf
 
 -- A10, R12: a tick outside O/S raises an alarm if its OUT reaches the limit that stands before the tick
 unfoldable pub raises : Alarm → History Event → Event → Bool
-raises a h = onTick (λ fault ain tot ainOut aoOut. not (isOut h fault 1) && reachedBy a h (ainOut .first)) false false
+raises a h = onTick (λ fault fed seen. not (isOut h fault 1) && reachedBy a h (seen .ain .first)) false false
 
 -- A11, R12: it is cleared by an O/S tick, by an OUT that leaves the limit, and by a start
 unfoldable pub clears : Alarm → History Event → Event → Bool
-clears a h = onTick (λ fault ain tot ainOut aoOut. isOut h fault 1 || leftBy a h (ainOut .first)) true false
+clears a h = onTick (λ fault fed seen. isOut h fault 1 || leftBy a h (seen .ain .first)) true false
 
 -- R12: it stands if it was raised and has not been cleared since
 unfoldable pub stands : Alarm → History Event → Bool
@@ -452,26 +505,17 @@ alarmed h bits status =
     (cond (standsWith hi h bits) 0x8a
     (cond (standsWith lo h bits) 0x89 status))))
 
--- A8: an Auto tick that isn't usable, by FSAFE_TYPE: 0 gives FSAFE_VALUE with 0x48; 1 the value that was last usable with 0x44, and 0 with 0x4C without one;
--- 2 gives the scaled value, or old OUT if that isn't finite, with the Bad status
-unfoldable pub ainFailSafe : History Event → Pair → ℕ → Pair
-ainFailSafe h ain bad =
-    cond (eqb (code h 1 17) 0) (pair (bitsOf (float h 1 18)) 0x48)
-    (cond (eqb (code h 1 17) 1) (last (lastUsable h))
-    (pair (cond (finite (scaled h ain)) (bitsOf (scaled h ain)) (oldOut 1 h)) bad))
-  where
-    last : Option Float → Pair
-    last none = pair 0 0x4c
-    last (some x) = pair (bitsOf x) 0x44
+-- what a tick makes of AIN's pair
+unfoldable pub ainSensed : History Event → Fed → Sensed Float
+ainSensed h fed = record {
+  bad = ainBad h (filterValue h) (fed .ain);
+  value = calculated h (filterValue h) (fed .ain);
+  comes = cond (finite (scaled h (fed .ain))) (some (scaled h (fed .ain))) none;
+  status = alarmed h (bitsOf (calculated h (filterValue h) (fed .ain))) (fed .ain .status);
+}
 
--- A7, A8: in Auto the calculated value where the input is usable, else the fail-safe
-abbrev pub ainAuto : History Event → Pair → Option ℕ → Pair
-ainAuto h ain none = let pv = bitsOf (calculated h (filterValue h) ain) in pair pv (alarmed h pv (ain .status))
-ainAuto h ain (some bad) = ainFailSafe h ain bad
-
--- A7, A9: what AIN gives in Auto, and in Man: the operator's pair
-unfoldable pub ainGives : History Event → Bool → Pair → Pair
-ainGives h fault ain = cond (isAuto h fault 1) (ainAuto h ain (ainBad h (filterValue h) ain)) (operator 1 h)
+abbrev pub analogIn : Sensor Float
+analogIn = record { block = 1; kind = 17; fallback = λ h. float h 1 18; word = bitsOf; sensed = ainSensed }
 
 -- ---- TOT
 
@@ -483,7 +527,7 @@ totBad tot = badStatus (tot .status) (finite (floatOf (tot .bits))) true
 unfoldable pub rateValue : History Event → Option Float
 rateValue =
     carried none (λ h e old. onTick
-    (λ fault ain tot ainOut aoOut. cond (isAuto h fault 2) (ifUsable (totBad tot) (some (floatOf (tot .bits))) old) old) none old e)
+    (λ fault fed seen. cond (isAuto h fault 2) (ifUsable (totBad (fed .tot)) (some (floatOf (fed .tot .bits))) old) old) none old e)
 
 -- T3, P12c: MODE_TOT 0 takes an increment of either sign, 1 those not below 0, 2 those below 0, 3 none
 unfoldable pub wantedBy : ℕ → ℤ → ℤ
@@ -511,7 +555,7 @@ totalBy h tot total =
 
 -- R14: an Auto tick moves the total, and so does a write of TOTAL; nothing else does
 abbrev pub totalAfter : History Event → Event → ℤ → ℤ
-totalAfter h (ticked fault ain tot ainOut aoOut order) total = cond (isAuto h fault 2) (totalBy h tot total) total
+totalAfter h (ticked fault fed seen) total = cond (isAuto h fault 2) (totalBy h (fed .tot) total) total
 totalAfter h (telegram input bytes) total = total
 totalAfter h (wrote block number a b) total = cond (eqb block 2 && eqb number 10) (thousandthsOf (floatOf a)) total
 totalAfter h (loaded bytes) total = total
@@ -539,76 +583,136 @@ totGives h fault tot =
     cond (isAuto h fault 2) (pair (bitsOf (valueGiven (totalBy h tot (total h)))) (totStatus h (tot .status) (totBad tot)))
     (pair (bitsOf (valueGiven (total h))) (operator 2 h .status))
 
--- ---- AO
+-- ---- an output block, over the type A of its setpoints
 
--- a telegram's pair on an input
-abbrev pub valueOn : Received → Option Pair
-valueOn (Received.Value p) = some p
-valueOn (Received.Refused r) = none
+-- the drive order, a position by the word of OUT
+pub data Move : Type 0 where
+  position : ℕ → Move
+  safe : Move
+  rest : Move
 
-abbrev pub pairOn : ℕ → Event → Option Pair
-pairOn input (ticked fault ain tot ainOut aoOut order) = none
-pairOn input (telegram input′ bytes) = cond (eqb input′ input) (valueOn (pairOf bytes)) none
-pairOn input (wrote block number a b) = none
-pairOn input (loaded bytes) = none
-pairOn input warmed = none
+-- C3: what a tick gives: the pair and the drive order
+pub record Given : Type 0 where
+  pub out : Pair
+  pub move : Move
+
+-- O10: a pair with the order to go to its value
+abbrev pub positioned : ℕ → ℕ → Given
+positioned bits status = record { out = pair bits status; move = position bits }
+
+-- O9: OUT by a working value, with the status given; old OUT with 0x04 where there is none
+abbrev pub workedOr : ℕ → ℕ → Option ℕ → Given
+workedOr old status none = positioned old 0x04
+workedOr old status (some bits) = positioned bits status
 
 abbrev pub holds : (Pair → Bool) → Option Pair → Bool
 holds p none = false
 holds p (some x) = p x
 
--- O1: a telegram of either Good quality is IFS (initiate-fail-safe) by sub-status 8, and by another usable if its value is finite. O2: others are nothing
+-- O1: of either Good quality
 abbrev pub isGood : ℕ → Bool
 isGood status = eqb (qualityOf status) 2 || eqb (qualityOf status) 3
 
-abbrev pub isUsable : Pair → Bool
-isUsable p = isGood (p .status) && not (eqb (subStatusOf (p .status)) 8) && finite (floatOf (p .bits))
-
+-- O1: a telegram of either Good quality is IFS (initiate-fail-safe) by sub-status 8
 abbrev pub isIfs : Pair → Bool
 isIfs p = isGood (p .status) && eqb (subStatusOf (p .status)) 8
 
--- such a telegram on an input
-unfoldable pub isUsableOn : ℕ → Event → Bool
-isUsableOn input e = holds isUsable (pairOn input e)
+-- a block: its number, its setpoint inputs in Auto and in RCas, the numbers of FSAFE_TIME and FSAFE_TYPE, FSAFE_VALUE; of its telegrams the word and the
+-- status that bytes stand for, whether a word is a setpoint's and which; and the word of OUT by a working value, if there is one
+pub record Drive (A : Type 0) : Type 0 where
+  pub block : ℕ
+  pub sp : ℕ
+  pub rcasIn : ℕ
+  pub time : ℕ
+  pub kind : ℕ
+  pub fallback : History Event → A
+  pub zero : A
+  pub received : List ℕ → Option Pair
+  pub fine : ℕ → Bool
+  pub value : ℕ → A
+  pub worked : History Event → A → Option ℕ
 
-unfoldable pub isIfsOn : ℕ → Event → Bool
-isIfsOn input e = holds isIfs (pairOn input e)
+module _ {A : Type 0} (d : Drive A) where
+  -- a telegram's pair on an input
+  abbrev pub pairOn : ℕ → Event → Option Pair
+  pairOn input (ticked fault fed seen) = none
+  pairOn input (telegram input′ bytes) = cond (eqb input′ input) (d .received bytes) none
+  pairOn input (wrote block number a b) = none
+  pairOn input (loaded bytes) = none
+  pairOn input warmed = none
 
--- O5: whether a usable telegram came on an input since start
-unfoldable pub came : ℕ → History Event → Bool
-came input = since (λ h e. isUsableOn input e) (λ h e. isStart e)
+  -- O1: by another sub-status than 8 it is usable if its value is finite. O2: others are nothing
+  abbrev pub isUsable : Pair → Bool
+  isUsable p = isGood (p .status) && not (eqb (subStatusOf (p .status)) 8) && d .fine (p .bits)
 
--- O6: the value of the last usable telegram since start
-abbrev pub setpointOn : ℕ → Event → Option Float
-setpointOn input e = cond (isUsableOn input e) (bitsOn (pairOn input e)) none
-  where
-    bitsOn : Option Pair → Option Float
-    bitsOn none = none
-    bitsOn (some p) = some (floatOf (p .bits))
+  -- such a telegram on an input
+  unfoldable pub isUsableOn : ℕ → Event → Bool
+  isUsableOn input e = holds isUsable (pairOn input e)
 
-unfoldable pub setpoint : ℕ → History Event → Float
-setpoint input h = orElse (floatOf 0) (latest (λ p. setpointOn input) isStart h)
+  unfoldable pub isIfsOn : ℕ → Event → Bool
+  isIfsOn input e = holds isIfs (pairOn input e)
 
--- O4: n, the ticks after an input's last usable telegram, whatever their mode
-unfoldable pub silence : ℕ → History Event → ℕ
-silence input h = countSince isTick (isUsableOn input) h
+  -- O5: whether a usable telegram came on an input since start
+  unfoldable pub came : ℕ → History Event → Bool
+  came input = since (λ h e. isUsableOn input e) (λ h e. isStart e)
 
--- O5: an IFS came since start, and no usable telegram after it
-unfoldable pub ifs : ℕ → History Event → Bool
-ifs input = since (λ h e. isIfsOn input e) (λ h e. isUsableOn input e || isStart e)
+  -- O6: the value of the last usable telegram since start
+  abbrev pub setpointOn : ℕ → Event → Option A
+  setpointOn input e = cond (isUsableOn input e) (valueOn (pairOn input e)) none
+    where
+      valueOn : Option Pair → Option A
+      valueOn none = none
+      valueOn (some p) = some (d .value (p .bits))
 
--- O5: the fail-safe acts without a usable telegram since start, after more ticks than FSAFE_TIME, and after an IFS
-unfoldable pub isFailSafe : ℕ → History Event → Bool
-isFailSafe input h = not (came input h) || ltb (code h 3 23) (silence input h) || ifs input h
+  unfoldable pub setpoint : ℕ → History Event → A
+  setpoint input h = orElse (d .zero) (latest (λ p. setpointOn input) isStart h)
 
--- C3: what AO gives at a tick: its pair and the drive order
-pub record Given : Type 0 where
-  pub out : Pair
-  pub order : Order
+  -- O4: n, the ticks after an input's last usable telegram, whatever their mode
+  unfoldable pub silence : ℕ → History Event → ℕ
+  silence input h = countSince isTick (isUsableOn input) h
 
--- O10: a pair with the order to go to its value
-abbrev pub positioned : ℕ → ℕ → Given
-positioned bits status = record { out = pair bits status; order = Position (floatOf bits) }
+  -- O5: an IFS came since start, and no usable telegram after it
+  unfoldable pub ifs : ℕ → History Event → Bool
+  ifs input = since (λ h e. isIfsOn input e) (λ h e. isUsableOn input e || isStart e)
+
+  -- O5: the fail-safe acts without a usable telegram since start, after more ticks than FSAFE_TIME, and after an IFS
+  unfoldable pub isFailSafe : ℕ → History Event → Bool
+  isFailSafe input h = not (came input h) || ltb (code h (d .block) (d .time)) (silence input h) || ifs input h
+
+  -- O9: what a working value leads to with its status
+  unfoldable pub working : History Event → A → ℕ → Given
+  working h w status = workedOr (oldOut (d .block) h) status (d .worked h w)
+
+  -- O7, O8: the fail-safe by FSAFE_TYPE: 0 works by FSAFE_VALUE, 0x48; 1 by the last usable telegram, 0x44, and without one keeps OUT, 0x4C; 2 keeps OUT,
+  -- 0x00, and orders Safe
+  unfoldable pub drivenFailSafe : ℕ → History Event → Given
+  drivenFailSafe input h =
+      cond (eqb (code h (d .block) (d .kind)) 0) (working h (d .fallback h) 0x48)
+      (cond (eqb (code h (d .block) (d .kind)) 1)
+      (cond (came input h) (working h (setpoint input h) 0x44) (positioned (oldOut (d .block) h) 0x4c))
+      (record { out = pair (oldOut (d .block) h) 0x00; move = safe }))
+
+  -- O6, R15, R16: by an input: the fail-safe in exactly the ticks in which it acts, else the last usable telegram, 0x80
+  unfoldable pub drivenBy : ℕ → History Event → Given
+  drivenBy input h = cond (isFailSafe input h) (drivenFailSafe input h) (working h (setpoint input h) 0x80)
+
+  -- O3, O11: what the block gives in Auto (by SP), in RCas (by RCAS_IN) and in Man (the operator's pair)
+  unfoldable pub drives : History Event → Bool → Given
+  drives h fault =
+      cond (isAuto h fault (d .block)) (drivenBy (d .sp) h)
+      (cond (eqb (modeAt h fault (d .block)) rcas) (drivenBy (d .rcasIn) h)
+      (positioned (operator (d .block) h .bits) (operator (d .block) h .status)))
+
+  -- C3, M2: a tick's drive order; in O/S it is Rest
+  unfoldable pub driven : History Event → Bool → Move
+  driven h fault = cond (isOut h fault (d .block)) rest (drives h fault .move)
+
+-- ---- AO
+
+-- F9: five bytes are a value with a status
+abbrev pub fiveAs : Received → Option Pair
+fiveAs (Received.Value p) = some p
+fiveAs (Received.Refused r) = none
 
 -- O9: the working value's place in PV_SCALE, from the other end if INCREASE_CLOSE is 1, as a value in OUT_SCALE
 unfoldable pub aoScaled : History Event → Float → Float
@@ -617,32 +721,34 @@ aoScaled h w = atFraction (scale h 3 38) (cond (eqb (code h 3 36) 1) (sub binary
     f : Float
     f = fractionOf (scale h 3 11) w
 
--- O9: OUT by a working value with its status; old OUT with 0x04 where that is not finite
-unfoldable pub working : History Event → Float → ℕ → Given
-working h w status = cond (finite (aoScaled h w)) (positioned (bitsOf (aoScaled h w)) status) (positioned (oldOut 3 h) 0x04)
+-- O9: OUT by it, if that is finite
+unfoldable pub aoWorked : History Event → Float → Option ℕ
+aoWorked h w = cond (finite (aoScaled h w)) (some (bitsOf (aoScaled h w))) none
 
--- O7, O8: the fail-safe by FSAFE_TYPE: 0 works by FSAFE_VALUE, 0x48; 1 by the last usable telegram, 0x44, and without one keeps OUT, 0x4C; 2 keeps OUT,
--- 0x00, and orders Safe
-unfoldable pub aoFailSafe : ℕ → History Event → Given
-aoFailSafe input h =
-    cond (eqb (code h 3 24) 0) (working h (float h 3 25) 0x48)
-    (cond (eqb (code h 3 24) 1) (cond (came input h) (working h (setpoint input h) 0x44) (positioned (oldOut 3 h) 0x4c))
-    (record { out = pair (oldOut 3 h) 0x00; order = Safe }))
+-- C5, O3: SP is input 0 and RCAS_IN is 1
+abbrev pub analogOut : Drive Float
+analogOut = record {
+  block = 3;
+  sp = 0;
+  rcasIn = 1;
+  time = 23;
+  kind = 24;
+  fallback = λ h. float h 3 25;
+  zero = floatOf 0;
+  received = λ bytes. fiveAs (pairOf bytes);
+  fine = λ bits. finite (floatOf bits);
+  value = floatOf;
+  worked = aoWorked;
+}
 
--- O6, R15, R16: by an input: the fail-safe in exactly the ticks in which it acts, else the last usable telegram, 0x80
-unfoldable pub aoBy : ℕ → History Event → Given
-aoBy input h = cond (isFailSafe input h) (aoFailSafe input h) (working h (setpoint input h) 0x80)
+-- C4: AO's order as the tick answers it
+abbrev pub analogOrder : Move → Order
+analogOrder (position bits) = Position (floatOf bits)
+analogOrder safe = Safe
+analogOrder rest = Rest
 
--- O3, O11: what AO gives in Auto (by SP), in RCas (by RCAS_IN) and in Man (the operator's pair)
-unfoldable pub aoGives : History Event → Bool → Given
-aoGives h fault =
-    cond (isAuto h fault 3) (aoBy 0 h)
-    (cond (eqb (modeAt h fault 3) rcas) (aoBy 1 h)
-    (positioned (operator 3 h .bits) (operator 3 h .status)))
-
--- C3, M2: a tick's drive order; in O/S it is Rest
 unfoldable pub order : History Event → Bool → Order
-order h fault = cond (isOut h fault 3) Rest (aoGives h fault .order)
+order h fault = analogOrder (driven analogOut h fault)
 
 -- ---- what reads give
 
@@ -651,8 +757,8 @@ unfoldable pub given : ℕ → History Event → Pair
 given block =
     carried (pair 0 0x1f)
     (λ h e old. onTick
-    (λ fault ain tot ainOut aoOut. cond (isOut h fault block) (held old)
-    (cond (eqb block 1) (ainGives h fault ain) (cond (eqb block 2) (totGives h fault tot) (aoGives h fault .out))))
+    (λ fault fed seen. cond (isOut h fault block) (held old)
+    (cond (eqb block 1) (senses analogIn h fault fed) (cond (eqb block 2) (totGives h fault (fed .tot)) (drives analogOut h fault .out))))
     (held old) old e)
 
 -- P14a, P14b, P7: the words that a parameter reads with: outputs the pair last given, read-only ones a number and 0, all others what is stored
