@@ -1,7 +1,9 @@
 // What the function blocks have in common: modes, kept values, the state of an output out of service, and the
-// classification of a transducer's status (document 01, Mode, Parameters, AIN tick), and the operator's pair on entering
-// Man (document 02, request 2).
+// classification of a transducer's status (document 01, Mode, Parameters, AIN tick), the classification of a setpoint's
+// status, the silence of an input and the test for fail-safe (AO tick), and the operator's pair on entering Man (document
+// 02, request 2).
 ghost use mathlib.Core.Path.{_≡_};
+ghost use Rattle.blocks.specs.FailSafe.{classOf, silenceAfter, failSafeActs};
 ghost use Rattle.blocks.specs.Common.{actualMode, heldOut, freshOperator, operatorAfter, none, kept, inputStatus};
 use wire::Pair;
 
@@ -25,6 +27,13 @@ pub struct Kept {
 pub enum Input {
     Usable,
     Bad(u8),
+}
+
+// What a status byte makes of a telegram, its value left aside.
+pub enum Class {
+    Usable,
+    InitiateFailSafe,
+    Neither,
 }
 
 pub fn actual_mode(fault: bool, target: u32) -> u32
@@ -106,4 +115,42 @@ pub fn input_status(status: u8, value: bool, calculated: bool) -> Input
         return Input::Bad(0x04);
     }
     Input::Usable
+}
+
+// ---- setpoint telegrams and fail-safe
+
+pub fn class_of(status: u8) -> Class
+    ensures { λ r. ⌜ r ≡ classOf status ⌝ }
+{
+    let quality = wire::quality(status);
+    let sub_status = wire::sub_status(status);
+    let good = (quality == 2) | (quality == 3);
+    let initiates = sub_status == 8;
+    if good {
+        if initiates {
+            return Class::InitiateFailSafe;
+        }
+        return Class::Usable;
+    }
+    Class::Neither
+}
+
+// Whether fail-safe acts, by what came on an input and FSAFE_TIME.
+pub fn fail_safe_acts(some: bool, n: u32, ifs: bool, time: u32) -> bool
+    ensures { λ r. ⌜ r ≡ failSafeActs some n ifs time ⌝ }
+{
+    !some | (n > time) | ifs
+}
+
+// n after a tick.
+pub fn silence_after(some: bool, n: u32) -> u32
+    ensures { λ r. ⌜ r ≡ silenceAfter some n ⌝ }
+{
+    if some {
+        if n < 65536 {
+            return n + 1;
+        }
+        return 65536;
+    }
+    0
 }

@@ -8,6 +8,8 @@ use Rattle.wire.specs.declared.Pair.{Pair}
 use Rattle.wire.specs.Refusal.{ground}
 use Rattle.wire.specs.declared.Answer.{Answer}
 use Rattle.wire.specs.declared.Received.{Received}
+use Rattle.wire.specs.declared.Discrete.{Discrete}
+use Rattle.wire.specs.declared.DiscreteReceived.{DiscreteReceived}
 
 -- S4: a 32-bit word, from its highest byte on
 abbrev pub wordBytes : ℕ → List ℕ
@@ -26,6 +28,15 @@ unfoldable pub pairOf : List ℕ → Received
 pairOf s =
     cond (eqb (length s) 5) (Received.Value (record { bits = wordOf (getD s 0 0) (getD s 1 0) (getD s 2 0) (getD s 3 0); status = getD s 4 0 }))
     (Received.Refused (ground 7))
+
+-- Q3.4: a discrete value on the bus: the value's byte, and the status behind it
+abbrev pub twoBytes : Discrete → List ℕ
+twoBytes d = d .value ∷ d .status ∷ []
+
+-- Q3.8a: the discrete value and status of exactly two bytes; any other number of them is refused
+unfoldable pub discreteOf : List ℕ → DiscreteReceived
+discreteOf s =
+    cond (eqb (length s) 2) (DiscreteReceived.Value (record { value = getD s 0 0; status = getD s 1 0 })) (DiscreteReceived.Refused (ground 7))
 
 -- bs in the place of as many bytes of s from at on, the bytes before and after unchanged
 abbrev pub replaced : List ℕ → ℕ → List ℕ → List ℕ

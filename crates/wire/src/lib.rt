@@ -1,11 +1,11 @@
 // Paper 01's wire form: the status byte, a value as five bytes, the bus image and one block's part of it, and the
-// numbers of refused calls.
+// numbers of refused calls; with paper 02, request 3, a discrete value as two bytes.
 pub mod status;
 
 ghost use mathlib.Core.Path.{_≡_};
 ghost use Rattle.wire.specs.Status.{qualityOf, subStatusOf, limitsOf};
 ghost use Rattle.wire.specs.Refusal.{refusalNumber, answerNumber};
-ghost use Rattle.wire.specs.Bytes.{wordOf, putAnswer, putBytes, pairOf};
+ghost use Rattle.wire.specs.Bytes.{wordOf, putAnswer, putBytes, pairOf, discreteOf};
 ghost use Rattle.wire.specs.Image.{imageAnswer, imageBytes, partOf, partPlace};
 ghost use denote.Ref.{ptr};
 
@@ -13,6 +13,13 @@ ghost use denote.Ref.{ptr};
 #[repr(C)]
 pub struct Pair {
     pub bits: u32,
+    pub status: u8,
+}
+
+// A discrete value and its status.
+#[repr(C)]
+pub struct Discrete {
+    pub value: u8,
     pub status: u8,
 }
 
@@ -39,6 +46,12 @@ pub enum Answer {
 // What five bytes stand for.
 pub enum Received {
     Value(Pair),
+    Refused(Refusal),
+}
+
+// What two bytes stand for.
+pub enum DiscreteReceived {
+    Value(Discrete),
     Refused(Refusal),
 }
 
@@ -131,6 +144,18 @@ pub fn pair_of(s: &[u8]) -> Received
     let bits = word(s[0], s[1], s[2], s[3]);
     let status = s[4];
     Received::Value(Pair { bits, status })
+}
+
+// The discrete value and status that exactly two bytes stand for.
+pub fn discrete_of(s: &[u8]) -> DiscreteReceived
+    ensures { λ r. ⌜ r ≡ discreteOf (now (s .entry)) ⌝ }
+{
+    if s.len() != 2 {
+        return DiscreteReceived::Refused(Refusal::WrongLength);
+    }
+    let value = s[0];
+    let status = s[1];
+    DiscreteReceived::Value(Discrete { value, status })
 }
 
 // Puts the three blocks' pairs into the front of a buffer, or changes nothing where it is too short.

@@ -1,10 +1,10 @@
--- `ao::silence_after` meets its contract: below 65,536 the sum is the smaller number.
+-- `blocks::silence_after` meets its contract: below 65,536 the sum is the smaller number.
 -- Assumes nothing.
 use native.Mathlib.Omega.{arith}
-use Rattle.ao.specs.FailSafe.{silenceAfter}
+use Rattle.blocks.specs.FailSafe.{silenceAfter}
 use borrow.Author.Needs.{needs}
-use Rattle.ao.proofs.silence_after.Statement.{statement}
-use Rattle.ao.proofs.silence_after.Tie as tie
+use Rattle.blocks.proofs.silence_after.Statement.{statement}
+use Rattle.blocks.proofs.silence_after.Tie as tie
 
 returns : tie.Need-returns
 unfolding silenceAfter

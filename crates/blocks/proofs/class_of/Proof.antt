@@ -1,9 +1,9 @@
--- `ao::class_of` meets its contract: the tests are the definition's, in its order.
+-- `blocks::class_of` meets its contract: the tests are the definition's, in its order.
 -- Assumes nothing.
-use Rattle.ao.specs.FailSafe.{classOf}
+use Rattle.blocks.specs.FailSafe.{classOf}
 use borrow.Author.Needs.{needs}
-use Rattle.ao.proofs.class_of.Statement.{statement}
-use Rattle.ao.proofs.class_of.Tie as tie
+use Rattle.blocks.proofs.class_of.Statement.{statement}
+use Rattle.blocks.proofs.class_of.Tie as tie
 
 returns : tie.Need-returns
 unfolding classOf

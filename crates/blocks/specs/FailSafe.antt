@@ -5,9 +5,9 @@ use mathlib.Core.Bool.{Bool, true, false, cond, not, _&&_, _||_}
 use mathlib.Core.Option.{Option, none, some}
 use lib.Dec.{eqb, ltb}
 use Rattle.wire.specs.Status.{qualityOf, subStatusOf}
 use Rattle.blocks.specs.Common.{outOfService, man}
-use Rattle.ao.specs.declared.Class.{Class}
-use Rattle.ao.specs.declared.Class.the-variants.{Usable, InitiateFailSafe, Neither}
+use Rattle.blocks.specs.declared.Class.{Class}
+use Rattle.blocks.specs.declared.Class.the-variants.{Usable, InitiateFailSafe, Neither}
 
 -- ---- telegrams
 
