@@ -1,4 +1,4 @@
--- A pair on the bus and back, document 01, Status byte, with a refusal of Refused calls. Assumes nothing.
+-- A pair on the bus and back, document 01, Status byte, with a refusal of Refused calls; a discrete one, document 02, request 3. Assumes nothing.
 use Prim.Native.Nat.{ℕ, _+_, _*_, _/_, _%_, _^_}
 use mathlib.Core.Bool.{Bool, cond}
 use mathlib.Core.List.{List, [], _∷_, _++_}
@@ -42,13 +42,28 @@ discreteOf s =
 abbrev pub replaced : List ℕ → ℕ → List ℕ → List ℕ
 replaced s at bs = take at s ++ bs ++ drop (at + length bs) s
 
--- s has five bytes at the place at
-abbrev pub fiveFit : List ℕ → ℕ → Bool
-fiveFit s at = leb (at + 5) (length s)
+-- s has n bytes at the place at
+abbrev pub fits : ℕ → List ℕ → ℕ → Bool
+fits n s at = leb (at + n) (length s)
 
--- a pair's five bytes put at a place of a buffer: where they do not fit the call is refused and no byte changed
-unfoldable pub putAnswer : List ℕ → ℕ → Answer
-putAnswer s at = cond (fiveFit s at) Answer.Accepted (Answer.Refused (ground 7))
+-- n bytes put at a place of a buffer: where they do not fit the call is refused
+unfoldable pub placedAnswer : ℕ → List ℕ → ℕ → Answer
+placedAnswer n s at = cond (fits n s at) Answer.Accepted (Answer.Refused (ground 7))
 
-unfoldable pub putBytes : List ℕ → ℕ → Pair → List ℕ
-putBytes s at p = cond (fiveFit s at) (replaced s at (fiveBytes p)) s
+-- and no byte changed
+unfoldable pub placed : List ℕ → ℕ → List ℕ → List ℕ
+placed s at bs = cond (fits (length bs) s at) (replaced s at bs) s
+
+-- a pair's five bytes put at a place of a buffer
+abbrev pub putAnswer : List ℕ → ℕ → Answer
+putAnswer = placedAnswer 5
+
+abbrev pub putBytes : List ℕ → ℕ → Pair → List ℕ
+putBytes s at p = placed s at (fiveBytes p)
+
+-- a discrete value's two
+abbrev pub putDiscreteAnswer : List ℕ → ℕ → Answer
+putDiscreteAnswer = placedAnswer 2
+
+abbrev pub putDiscreteBytes : List ℕ → ℕ → Discrete → List ℕ
+putDiscreteBytes s at d = placed s at (twoBytes d)

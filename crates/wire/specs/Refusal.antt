@@ -10,7 +10,7 @@ use Rattle.wire.specs.declared.Answer.{Answer}
 use Rattle.wire.specs.declared.Answer.the-variants.{Accepted, Refused}
 
 abbrev pub refusalNumber : Refusal → ℕ
--- F3: there are blocks 0 to 3
+-- F3, Q3.10: there are blocks 0 to 5
 refusalNumber NoSuchBlock = 1
 -- F4: the block has none of this number
 refusalNumber NoSuchParameter = 2
@@ -22,9 +22,9 @@ refusalNumber Locked = 4
 refusalNumber WordsNotAllowed = 5
 -- F8: a write of an output, the target being another than Man
 refusalNumber NotMan = 6
--- F9: a telegram of more or fewer than five bytes; a buffer too short for an image
+-- F9, Q3.8a, Q3.9a: a telegram of more or fewer bytes than its input takes; a buffer too short for an image
 refusalNumber WrongLength = 7
--- F10: a telegram on another input than SP and RCAS_IN
+-- F10, Q3.10: a telegram on another input than SP, RCAS_IN, SP_D and RCAS_IN_D
 refusalNumber NoSuchInput = 8
 -- Q1.11: a table of other than 2 to 21 whole pairs
 refusalNumber NotWholePairs = 9

@@ -5,7 +5,7 @@ pub mod status;
 ghost use mathlib.Core.Path.{_≡_};
 ghost use Rattle.wire.specs.Status.{qualityOf, subStatusOf, limitsOf};
 ghost use Rattle.wire.specs.Refusal.{refusalNumber, answerNumber};
-ghost use Rattle.wire.specs.Bytes.{wordOf, putAnswer, putBytes, pairOf, discreteOf};
+ghost use Rattle.wire.specs.Bytes.{wordOf, putAnswer, putBytes, pairOf, putDiscreteAnswer, putDiscreteBytes, discreteOf};
 ghost use Rattle.wire.specs.Image.{imageAnswer, imageBytes, partOf, partPlace};
 ghost use denote.Ref.{ptr};
 
@@ -146,6 +146,24 @@ pub fn pair_of(s: &[u8]) -> Received
     Received::Value(Pair { bits, status })
 }
 
+// Puts a discrete value's two bytes at a place of a buffer, or changes nothing where they do not fit there.
+pub fn put_discrete(buf: &mut [u8], at: usize, pair: Discrete) -> Answer
+    ensures { λ r. ⌜ r ≡ putDiscreteAnswer (now (buf .entry)) at ⌝ }
+    ensures { λ _. ⌜ now (buf .exit) ≡ putDiscreteBytes (now (buf .entry)) at pair ⌝ }
+{
+    let value = pair.value;
+    let status = pair.status;
+    if buf.len() < 2 {
+        return Answer::Refused(Refusal::WrongLength);
+    }
+    if at > buf.len() - 2 {
+        return Answer::Refused(Refusal::WrongLength);
+    }
+    buf[at] = value;
+    buf[at + 1] = status;
+    Answer::Accepted
+}
+
 // The discrete value and status that exactly two bytes stand for.
 pub fn discrete_of(s: &[u8]) -> DiscreteReceived
     ensures { λ r. ⌜ r ≡ discreteOf (now (s .entry)) ⌝ }
@@ -158,35 +176,41 @@ pub fn discrete_of(s: &[u8]) -> DiscreteReceived
     DiscreteReceived::Value(Discrete { value, status })
 }
 
-// Puts the three blocks' pairs into the front of a buffer, or changes nothing where it is too short.
-pub fn image(buf: &mut [u8], ain: Pair, tot: Pair, ao: Pair) -> Answer
+// Puts the blocks' pairs into the front of a buffer, or changes nothing where it is too short.
+pub fn image(buf: &mut [u8], ain: Pair, tot: Pair, ao: Pair, di: Discrete, dout: Discrete) -> Answer
     ensures { λ r. ⌜ r ≡ imageAnswer (now (buf .entry)) ⌝ }
-    ensures { λ _. ⌜ now (buf .exit) ≡ imageBytes (now (buf .entry)) ain tot ao ⌝ }
+    ensures { λ _. ⌜ now (buf .exit) ≡ imageBytes (now (buf .entry)) ain tot ao di dout ⌝ }
 {
     let room = buf.len();
-    if room < 15 {
+    if room < 19 {
         return Answer::Refused(Refusal::WrongLength);
     }
     put(buf, 0, ain);
     put(buf, 5, tot);
     put(buf, 10, ao);
+    put_discrete(buf, 15, di);
+    put_discrete(buf, 17, dout);
     Answer::Accepted
 }
 
-// One block's five bytes, a part of the image lent; an empty part at its front where the image is too short or
+// One block's bytes, a part of the image lent; an empty part at its front where the image is too short or
 // the block is not in it.
 pub fn part(buf: &[u8], block: u8) -> &[u8]
     ensures { λ r. ⌜ now r ≡ partOf (now (buf .entry)) block ⌝ }
     ensures { λ r. ⌜ ptr r ≡ partPlace (ptr (buf .entry)) (now (buf .entry)) block ⌝ }
 {
-    if buf.len() < 15 {
+    if buf.len() < 19 {
         return &buf[..0];
     }
     if block < 1 {
         return &buf[..0];
     }
-    if block > 3 {
+    if block > 5 {
         return &buf[..0];
+    }
+    if block > 3 {
+        let two = 15 + 2 * (block as usize - 4);
+        return &buf[two..two + 2];
     }
     let from = 5 * (block as usize - 1);
     &buf[from..from + 5]

@@ -1,8 +1,11 @@
 // Vectors over `wire`, a line each. The file `stdout` has what documents 01 and 02 say of them, worked out apart from this code.
 // It would show a status byte cut at the wrong bits, a byte order turned round, a NaN's or a zero's bits changed on the
-// way, a byte written outside the five or the fifteen, a part of the wrong block, and a refusal under a wrong number.
+// way, a byte written outside the five, the two or the nineteen, a part of the wrong block, and a refusal under a wrong
+// number.
 use libc::STDOUT_FILENO;
 use wire::Answer;
+use wire::Discrete;
+use wire::DiscreteReceived;
 use wire::Pair;
 use wire::Received;
 use wire::Refusal;
@@ -197,6 +200,70 @@ fn pair_of(length: usize) {
     show(&mut line, at);
 }
 
+// What two bytes stand for.
+fn put_discrete_received(line: &mut [u8], at: usize, r: DiscreteReceived) -> usize {
+    match r {
+        DiscreteReceived::Value(p) => {
+            let value = p.value;
+            let status = p.status;
+            let a = text::put_bytes(line, at, b" =");
+            let b = put_number(line, a, value as u64);
+            put_byte(line, b, status)
+        }
+        DiscreteReceived::Refused(g) => {
+            let a = text::put_bytes(line, at, b" refused");
+            put_number(line, a, wire::refusal_number(g) as u64)
+        }
+    }
+}
+
+// A discrete value put into two bytes and read again.
+fn discrete_there_and_back(value: u8, status: u8) {
+    let mut line = [0u8; 100];
+    let mut two = [0u8; 2];
+    wire::put_discrete(&mut two, 0, Discrete { value, status });
+    let mut at = text::put_bytes(&mut line, 0, b"discrete");
+    at = put_number(&mut line, at, value as u64);
+    at = put_byte(&mut line, at, status);
+    at = text::put_bytes(&mut line, at, b":");
+    at = put_row(&mut line, at, &two);
+    at = put_discrete_received(&mut line, at, wire::discrete_of(&two));
+    show(&mut line, at);
+}
+
+// A discrete value put at a place of four bytes.
+fn put_discrete_at(place: usize) {
+    let mut line = [0u8; 100];
+    let mut buf = [0xA5u8; 4];
+    let a = wire::put_discrete(
+        &mut buf,
+        place,
+        Discrete {
+            value: 1,
+            status: 0x55,
+        },
+    );
+    let mut at = text::put_bytes(&mut line, 0, b"put discrete");
+    at = put_number(&mut line, at, place as u64);
+    at = text::put_bytes(&mut line, at, b":");
+    at = put_number(&mut line, at, wire::answer_number(a) as u64);
+    at = put_row(&mut line, at, &buf);
+    show(&mut line, at);
+}
+
+// The first bytes of five, as a discrete value.
+fn discrete_of(length: usize) {
+    let mut line = [0u8; 100];
+    let five = [0x01u8, 0x80, 0x99, 0x77, 0x55];
+    if length > 5 {
+        return;
+    }
+    let mut at = text::put_bytes(&mut line, 0, b"discrete of");
+    at = put_number(&mut line, at, length as u64);
+    at = put_discrete_received(&mut line, at, wire::discrete_of(&five[0..length]));
+    show(&mut line, at);
+}
+
 // The image in the first bytes of a buffer.
 fn image_in(buf: &mut [u8], length: usize) -> Answer {
     if length > buf.len() {
@@ -214,13 +281,21 @@ fn image_in(buf: &mut [u8], length: usize) -> Answer {
         bits: 0x7FC1_2345,
         status: 0x1F,
     };
-    wire::image(&mut buf[0..length], ain, tot, ao)
+    let di = Discrete {
+        value: 1,
+        status: 0x80,
+    };
+    let dout = Discrete {
+        value: 7,
+        status: 0xC4,
+    };
+    wire::image(&mut buf[0..length], ain, tot, ao, di, dout)
 }
 
-// The image in the first bytes of twenty, of which all are shown.
+// The image in the first bytes of twenty-two, of which all are shown.
 fn image(length: usize) {
     let mut line = [0u8; 100];
-    let mut buf = [0xA5u8; 20];
+    let mut buf = [0xA5u8; 22];
     let a = image_in(&mut buf, length);
     let mut at = text::put_bytes(&mut line, 0, b"image");
     at = put_number(&mut line, at, length as u64);
@@ -230,11 +305,32 @@ fn image(length: usize) {
     show(&mut line, at);
 }
 
-// One block's part of the first bytes of sixteen that hold 0, 1, 2, ..
+// One block's part of the first bytes of twenty that hold 0, 1, 2, ..
 fn part(block: u8, length: usize) {
     let mut line = [0u8; 100];
-    let buf = [0u8, 1, 2, 3, 4, 5, 6, 7, 8, 9, 10, 11, 12, 13, 14, 15];
-    if length > 16 {
+    let buf = [
+        0u8,
+        1,
+        2,
+        3,
+        4,
+        5,
+        6,
+        7,
+        8,
+        9,
+        10,
+        11,
+        12,
+        13,
+        14,
+        15,
+        16,
+        17,
+        18,
+        19,
+    ];
+    if length > 20 {
         return;
     }
     let mut at = text::put_bytes(&mut line, 0, b"part");
@@ -252,6 +348,8 @@ fn parts(length: usize) {
     part(2, length);
     part(3, length);
     part(4, length);
+    part(5, length);
+    part(6, length);
     part(255, length);
 }
 
@@ -361,6 +459,26 @@ fn values() {
     there_and_back(0x0102_0304, 0x05);
 }
 
+// Values and statuses, places and lengths at their ends.
+fn discretes() {
+    discrete_there_and_back(0, 0x80);
+    discrete_there_and_back(1, 0xC0);
+    discrete_there_and_back(7, 0x04);
+    discrete_there_and_back(255, 0xFF);
+    put_discrete_at(0);
+    put_discrete_at(1);
+    put_discrete_at(2);
+    put_discrete_at(3);
+    put_discrete_at(4);
+    put_discrete_at(18446744073709551614);
+    put_discrete_at(18446744073709551615);
+    discrete_of(0);
+    discrete_of(1);
+    discrete_of(2);
+    discrete_of(3);
+    discrete_of(5);
+}
+
 fn main() {
     all_parts();
     statuses();
@@ -377,13 +495,16 @@ fn main() {
     pair_of(4);
     pair_of(5);
     pair_of(6);
+    discretes();
     image(0);
-    image(14);
     image(15);
-    image(16);
+    image(18);
+    image(19);
     image(20);
-    parts(14);
+    image(22);
     parts(15);
-    parts(16);
+    parts(18);
+    parts(19);
+    parts(20);
     refusals();
 }

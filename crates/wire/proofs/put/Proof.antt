@@ -1,27 +1,25 @@
 -- `wire::put` meets its contract: five stores in a row are the five bytes in the place of those that stood there, `lib.Seq`'s `sets-eq`.
-use Prim.Native.Nat.{_+_}
 use native.Mathlib.Omega.{arith}
 use native.Mathlib.Numerals.{add-one, add-two, add-three, add-four}
-use borrow.Author.Tests.{le-leb, lt-leb}
-use lib.ListN.{length, length-set}
+use mathlib.Core.Path.{sym, _∙_}
+use lib.ListN.{length-set}
 use lib.Seq.{sets-eq}
-use Rattle.wire.specs.Bytes.{putAnswer, putBytes, fiveBytes}
+use Rattle.wire.specs.Bytes.{fiveBytes}
+use Rattle.wire.specs.Laws.{placed-accepted, placed-refused}
 use denote.Ref.{now}
 use borrow.Author.Needs.{needs}
 use Rattle.wire.proofs.put.Statement.{statement}
 use Rattle.wire.proofs.put.Tie as tie
 
 returns : tie.Need-returns
-unfolding putAnswer putBytes
 returns c = let a = c .before .args in
-    let h = lt-leb (a .at + 5) (length (now (a .buf))) (omega arith) in
-    (rw h, rw h)
+    let kept = placed-refused (now (a .buf)) (a .at) (fiveBytes (a .pair)) (omega arith) in
+    (sym (kept .0), sym (kept .1))
 
 returns-2 : tie.Need-returns-2
-unfolding putAnswer putBytes
 returns-2 c = let a = c .before .before .args in
-    let h = lt-leb (a .at + 5) (length (now (a .buf))) (omega arith) in
-    (rw h, rw h)
+    let kept = placed-refused (now (a .buf)) (a .at) (fiveBytes (a .pair)) (omega arith) in
+    (sym (kept .0), sym (kept .1))
 
 slice-write-buf-2 : tie.Need-slice-write-buf-2
 slice-write-buf-2 c = simp length-set (omega arith)
@@ -36,10 +34,9 @@ slice-write-buf-5 : tie.Need-slice-write-buf-5
 slice-write-buf-5 c = simp length-set (omega arith)
 
 returns-3 : tie.Need-returns-3
-unfolding putAnswer putBytes
 returns-3 c = let a = c .before .before .args in
-    let h = le-leb (a .at + 5) (length (now (a .buf))) (omega arith) in
-    (rw h, rw h (simp (add-one, add-two, add-three, add-four) (sets-eq (fiveBytes (a .pair)) (now (a .buf)) (a .at) (omega arith))))
+    let given = placed-accepted (now (a .buf)) (a .at) (fiveBytes (a .pair)) (omega arith) in
+    (sym (given .0), simp (add-one, add-two, add-three, add-four) (sets-eq (fiveBytes (a .pair)) (now (a .buf)) (a .at) (omega arith)) ∙ sym (given .1))
 
 pub put-spec : {M : Type 1} → statement M
 put-spec =
