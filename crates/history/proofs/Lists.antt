@@ -42,7 +42,7 @@ each p (n ∷ ns) t number m = go (each p ns (and-r (p n) (every p ns) t) number
 
 -- a number that the rules list has a row
 listed-present : (block number : ℕ) → T (has block number) → T (present number (entryOf block number))
-unfolding has statics kepts outputs readOnlys entryOf entryIn Table.physical Table.ain Table.tot Table.ao
+unfolding has statics kepts outputs readOnlys entryOf entryIn Table.physical Table.ain Table.tot Table.ao Table.di Table.dout
 listed-present block number =
     by-block
     (λ (b : ℕ). T (has b number) → T (present number (entryOf b number)))
@@ -50,15 +50,17 @@ listed-present block number =
     (each (λ n. present n (entryOf 1 n)) (5 ∷ 11 ∷ 12 ∷ 13 ∷ 16 ∷ 17 ∷ 18 ∷ 19 ∷ 21 ∷ 23 ∷ 25 ∷ 27 ∷ 10 ∷ 1 ∷ 6 ∷ 7 ∷ []) tt number)
     (each (λ n. present n (entryOf 2 n)) (5 ∷ 15 ∷ 16 ∷ 13 ∷ 14 ∷ 10 ∷ 1 ∷ 6 ∷ []) tt number)
     (each (λ n. present n (entryOf 3 n)) (5 ∷ 11 ∷ 23 ∷ 24 ∷ 25 ∷ 36 ∷ 38 ∷ 37 ∷ 1 ∷ 6 ∷ []) tt number)
+    (each (λ n. present n (entryOf 4 n)) (5 ∷ 15 ∷ 20 ∷ 21 ∷ 10 ∷ 1 ∷ 6 ∷ []) tt number)
+    (each (λ n. present n (entryOf 5 n)) (5 ∷ 15 ∷ 20 ∷ 21 ∷ 22 ∷ 10 ∷ 1 ∷ 6 ∷ []) tt number)
     (λ b h. none b h)
     block
   where
-    none : (b : ℕ) → 3 < b → T (has b number) → T (present number (entryOf b number))
-    none b h = rw (ne-eqb b 0 (omega arith), ne-eqb b 1 (omega arith), ne-eqb b 2 (omega arith), ne-eqb b 3 (omega arith)) (λ (x : ⊥). absurd x)
+    none : (b : ℕ) → 5 < b → T (has b number) → T (present number (entryOf b number))
+    none b h = rw (ne-eqb b 0 (omega arith), ne-eqb b 1 (omega arith), ne-eqb b 2 (omega arith), ne-eqb b 3 (omega arith), ne-eqb b 4 (omega arith), ne-eqb b 5 (omega arith)) (λ (x : ⊥). absurd x)
 
 -- and a row's number is listed
 row-listed : (block number : ℕ) → T (present number (entryOf block number)) → has block number ≡ true
-unfolding has statics kepts outputs readOnlys Table.physical Table.ain Table.tot Table.ao
+unfolding has statics kepts outputs readOnlys Table.physical Table.ain Table.tot Table.ao Table.di Table.dout
 row-listed =
     by-rows
     present
@@ -69,12 +71,14 @@ row-listed =
     (refl also refl also refl also refl also refl also refl also refl also refl also refl also refl also refl also refl also refl also refl also refl also refl also tt)
     (refl also refl also refl also refl also refl also refl also refl also refl also tt)
     (refl also refl also refl also refl also refl also refl also refl also refl also refl also refl also tt)
+    (refl also refl also refl also refl also refl also refl also refl also tt)
+    (refl also refl also refl also refl also refl also refl also refl also refl also tt)
 
 -- what an entry says of its block and number
 abbrev pub Known : ℕ → ℕ → Entry → Type 0
-Known block number NoBlock = ltb 3 block ≡ true
-Known block number NoParameter = (ltb 3 block ≡ false) × (has block number ≡ false)
-Known block number (Parameter class allowed) = (ltb 3 block ≡ false) × (has block number ≡ true)
+Known block number NoBlock = ltb 5 block ≡ true
+Known block number NoParameter = (ltb 5 block ≡ false) × (has block number ≡ false)
+Known block number (Parameter class allowed) = (ltb 5 block ≡ false) × (has block number ≡ true)
 
 missing : (b : Bool) → (T b → ⊥) → b ≡ false
 missing true n = absurd (n tt)
@@ -103,10 +107,12 @@ known block number =
     (in-block 1 refl (unfold entryOf in rows-blocked Table.ain number))
     (in-block 2 refl (unfold entryOf in rows-blocked Table.tot number))
     (in-block 3 refl (unfold entryOf in rows-blocked Table.ao number))
+    (in-block 4 refl (unfold entryOf in rows-blocked Table.di number))
+    (in-block 5 refl (unfold entryOf in rows-blocked Table.dout number))
     over
     block
   where
-    in-block : (b : ℕ) → ltb 3 b ≡ false → blockless (entryOf b number) ≡ false → Known b number (entryOf b number)
+    in-block : (b : ℕ) → ltb 5 b ≡ false → blockless (entryOf b number) ≡ false → Known b number (entryOf b number)
     in-block b s n = go (entryOf b number) refl n
       where
         go : (e : Entry) → entryOf b number ≡ e → blockless e ≡ false → Known b number e
@@ -114,18 +120,18 @@ known block number =
         go NoParameter e n = (s, missing (has b number) (λ t. subst (λ (x : Entry). T (present number x)) e (listed-present b number t)))
         go (Parameter class allowed) e n = (s, row-listed b number (subst (λ (x : Entry). T (present number x)) (sym e) tt))
 
-    over : (b : ℕ) → 3 < b → Known b number (entryOf b number)
-    over b h = rw (no-block b number h) (lt-ltb 3 b h)
+    over : (b : ℕ) → 5 < b → Known b number (entryOf b number)
+    over b h = rw (no-block b number h) (lt-ltb 5 b h)
 
 -- ---- grounds of refusal
 
 -- WRITE_LOCKING, the targets and whether a table came, by the rules
 unfoldable pub standingAt : History Event → Standing
-standingAt h = record { lock = code h 0 18; ain = code h 1 5; tot = code h 2 5; ao = code h 3 5; table = tabled h }
+standingAt h = record { lock = code h 0 18; ain = code h 1 5; tot = code h 2 5; ao = code h 3 5; di = code h 4 5; dout = code h 5 5; table = tabled h }
 
 module _ (h : History Event) (a b : ℕ) where
   row-ground : (block number : ℕ) → T (present number (entryOf block number)) → groundBy (standingAt h) block number a b (entryOf block number) ≡ toWrite h block number a b
-  unfolding standingAt toWrite has statics kepts outputs readOnlys targetIn entryOf entryIn Table.physical Table.ain Table.tot Table.ao
+  unfolding standingAt toWrite has statics kepts outputs readOnlys targetIn entryOf entryIn Table.physical Table.ain Table.tot Table.ao Table.di Table.dout
   row-ground =
       by-rows
       present
@@ -136,6 +142,8 @@ module _ (h : History Event) (a b : ℕ) where
       (refl also refl also refl also refl also refl also refl also refl also refl also refl also refl also refl also refl also refl also refl also refl also refl also tt)
       (refl also refl also refl also refl also refl also refl also refl also refl also tt)
       (refl also refl also refl also refl also refl also refl also refl also refl also refl also refl also tt)
+      (refl also refl also refl also refl also refl also refl also refl also tt)
+      (refl also refl also refl also refl also refl also refl also refl also refl also tt)
 
   pub ground-same : (block number : ℕ) → Refused.ground (standingAt h) block number a b ≡ toWrite h block number a b
   unfolding Refused.ground
@@ -157,7 +165,7 @@ among-left (x ∷ xs) ys number e = go (among-left xs ys number) (eqb number x) 
     go rest false e = rest e
 
 row-static : (block number : ℕ) → T (present number (entryOf block number)) → staticEntry (entryOf block number) ≡ among (statics block) number
-unfolding statics Table.physical Table.ain Table.tot Table.ao
+unfolding statics Table.physical Table.ain Table.tot Table.ao Table.di Table.dout
 row-static =
     by-rows
     present
@@ -168,10 +176,12 @@ row-static =
     (refl also refl also refl also refl also refl also refl also refl also refl also refl also refl also refl also refl also refl also refl also refl also refl also tt)
     (refl also refl also refl also refl also refl also refl also refl also refl also tt)
     (refl also refl also refl also refl also refl also refl also refl also refl also refl also refl also tt)
+    (refl also refl also refl also refl also refl also refl also refl also tt)
+    (refl also refl also refl also refl also refl also refl also refl also refl also tt)
 
-none-static : (block number : ℕ) → ltb 3 block ≡ true → among (statics block) number ≡ false
+none-static : (block number : ℕ) → ltb 5 block ≡ true → among (statics block) number ≡ false
 unfolding statics
-none-static block number e = rw (ne-eqb block 0 (omega (arith, ltb-true 3 block e)), ne-eqb block 1 (omega (arith, ltb-true 3 block e)), ne-eqb block 2 (omega (arith, ltb-true 3 block e)), ne-eqb block 3 (omega (arith, ltb-true 3 block e)))
+none-static block number e = rw (ne-eqb block 0 (omega (arith, ltb-true 5 block e)), ne-eqb block 1 (omega (arith, ltb-true 5 block e)), ne-eqb block 2 (omega (arith, ltb-true 5 block e)), ne-eqb block 3 (omega (arith, ltb-true 5 block e)), ne-eqb block 4 (omega (arith, ltb-true 5 block e)), ne-eqb block 5 (omega (arith, ltb-true 5 block e)))
 
 pub static-same : (block number : ℕ) → isStatic block number ≡ among (statics block) number
 unfolding isStatic

@@ -9,7 +9,7 @@ use lib.Ieee.Fits.{and-l, and-r}
 use borrow.Author.Tests.{ltb-true, ltb-false}
 use lib.ListN.{length, drop}
 use Rattle.wire.specs.declared.Answer.the-variants.{Accepted}
-use Rattle.wire.specs.Bytes.{fiveBytes}
+use Rattle.wire.specs.Bytes.{fiveBytes, twoBytes}
 use Rattle.wire.specs.Image.{imageAnswer, imageBytes}
 use Rattle.parameters.specs.declared.Words.{Words}
 use Rattle.parameters.specs.declared.Class.the-variants.{S, N, D, R}
@@ -23,14 +23,14 @@ use Rattle.parameters.specs.Laws.{by-rows, _also_, shown, shownBy, shown-back}
 use Rattle.parameters.specs.Table as Table
 use Rattle.device.specs.declared.Reading.{Reading}
 use Rattle.device.specs.declared.Reading.the-variants.{Read}
-use Rattle.device.specs.Read.{bit, alarmByte, ainWords, totWords, aoWords, wordsOf, readOf, readBy}
+use Rattle.device.specs.Read.{bit, alarmByte, ainWords, totWords, aoWords, diWords, doutWords, wordsOf, readOf, readBy}
 use Rattle.history.specs.Past.{History}
 use Rattle.history.specs.Calls.{Event, words}
-use Rattle.history.specs.Rules.{has, outputs, readOnlys, stored, stands, hiHi, hi, lo, loLo, alarmSum, given, reading, toImage}
+use Rattle.history.specs.Rules.{discrete, has, outputs, readOnlys, stored, stands, hiHi, hi, lo, loLo, alarmSum, given, reading, toImage}
 use Rattle.history.specs.Rules as Rules
 use Rattle.history.proofs.Lists.{present, Known, known}
 use Rattle.history.proofs.Sound.{fits, sound, Sound}
-use Rattle.history.proofs.Ruled.{alarmsAt, ainAt, totAt, aoAt, ainIn, totIn, aoIn, deviceOf}
+use Rattle.history.proofs.Ruled.{alarmsAt, ainAt, totAt, aoAt, diAt, doutAt, ainIn, totIn, aoIn, diIn, doutIn, deviceOf}
 
 allowed-shown : (k : Allowed) (w : Words) → T (allowsOf k (w .first) (w .second) && fits w) → shown k w ≡ w
 allowed-shown k w t =
@@ -79,7 +79,7 @@ module _ (h : History Event) (Q : Sound h) where
 
   -- stored parameters, as the settings give them
   stored-read : (block number : ℕ) → T (storedEntry (entryOf block number)) → readBy (wordsOf (deviceOf h) block number) (entryOf block number) ≡ Read (shownBy (entryOf block number) (stored h block number))
-  unfolding deviceOf wordsOf ainWords totWords aoWords Table.physical Table.ain Table.tot Table.ao ainAt totAt aoAt
+  unfolding deviceOf wordsOf ainWords totWords aoWords diWords doutWords Table.physical Table.ain Table.tot Table.ao Table.di Table.dout ainAt totAt aoAt diAt doutAt
   stored-read =
       by-rows
       (λ number e. storedEntry e)
@@ -90,10 +90,12 @@ module _ (h : History Event) (Q : Sound h) where
       (refl also refl also refl also refl also refl also refl also refl also refl also refl also refl also refl also refl also tt)
       (refl also refl also refl also refl also refl also tt)
       (refl also refl also refl also refl also refl also refl also refl also tt)
+      (refl also refl also refl also refl also tt)
+      (refl also refl also refl also refl also refl also tt)
 
   -- the rules read them as stored
   stored-shown : (block number : ℕ) → T (storedEntry (entryOf block number)) → Rules.shown h block number ≡ stored h block number
-  unfolding Rules.shown outputs readOnlys Table.physical Table.ain Table.tot Table.ao
+  unfolding Rules.shown outputs readOnlys Table.physical Table.ain Table.tot Table.ao Table.di Table.dout
   stored-shown =
       by-rows
       (λ number e. storedEntry e)
@@ -104,9 +106,11 @@ module _ (h : History Event) (Q : Sound h) where
       (refl also refl also refl also refl also refl also refl also refl also refl also refl also refl also refl also refl also tt)
       (refl also refl also refl also refl also refl also tt)
       (refl also refl also refl also refl also refl also refl also refl also tt)
+      (refl also refl also refl also refl also tt)
+      (refl also refl also refl also refl also refl also tt)
 
   other-read : (block number : ℕ) → T (unstored number (entryOf block number)) → readBy (wordsOf (deviceOf h) block number) (entryOf block number) ≡ Read (Rules.shown h block number)
-  unfolding deviceOf wordsOf ainWords totWords aoWords Table.physical Table.ain Table.tot Table.ao ainIn totIn aoIn Rules.shown outputs readOnlys
+  unfolding deviceOf wordsOf ainWords totWords aoWords diWords doutWords Table.physical Table.ain Table.tot Table.ao Table.di Table.dout ainIn totIn aoIn diIn doutIn Rules.shown outputs readOnlys
   other-read =
       by-rows
       unstored
@@ -115,6 +119,8 @@ module _ (h : History Event) (Q : Sound h) where
       (λ block number t. absurd t)
       tt
       (refl also refl also alarms-read also refl also tt)
+      (refl also refl also refl also tt)
+      (refl also refl also refl also tt)
       (refl also refl also refl also tt)
       (refl also refl also refl also tt)
 
@@ -127,7 +133,7 @@ module _ (h : History Event) (Q : Sound h) where
       shows e true a b = a tt
       shows e false a b = b tt
 
-      listed : (ltb 3 block ≡ false) × (has block number ≡ true) → Read (Rules.shown h block number) ≡ reading h block number
+      listed : (ltb 5 block ≡ false) × (has block number ≡ true) → Read (Rules.shown h block number) ≡ reading h block number
       listed k = sym (unfold reading in rw (k .0, k .1))
 
       go : (e : Entry) → Known block number e
@@ -147,18 +153,18 @@ T-true : (b : Bool) → T b → b ≡ true
 T-true true t = refl
 T-true false t = absurd t
 
--- room for 15 bytes, by the code's test and by the rules'
-room : (n : ℕ) → leb 15 n ≡ not (ltb n 15)
-room n = go (leb 15 n) refl (ltb n 15) refl
+-- room for 19 bytes, by the code's test and by the rules'
+room : (n : ℕ) → leb 19 n ≡ not (ltb n 19)
+room n = go (leb 19 n) refl (ltb n 19) refl
   where
-    short : 15 ≤ n → n < 15 → ⊥
+    short : 19 ≤ n → n < 19 → ⊥
     short a b = omega arith
 
-    go : (a : Bool) → leb 15 n ≡ a → (b : Bool) → ltb n 15 ≡ b → a ≡ not b
+    go : (a : Bool) → leb 19 n ≡ a → (b : Bool) → ltb n 19 ≡ b → a ≡ not b
     go true ea false eb = refl
     go false ea true eb = refl
-    go true ea true eb = absurd (short (leb→le 15 n (subst T (sym ea) tt)) (ltb-true n 15 eb))
-    go false ea false eb = absurd (true≢false (sym (T-true (leb 15 n) (le→leb 15 n (ltb-false n 15 eb))) ∙ ea))
+    go true ea true eb = absurd (short (leb→le 19 n (subst T (sym ea) tt)) (ltb-true n 19 eb))
+    go false ea false eb = absurd (true≢false (sym (T-true (leb 19 n) (le→leb 19 n (ltb-false n 19 eb))) ∙ ea))
 
 turned : {A : Type 0} (b : Bool) (x y : A) → cond (not b) x y ≡ cond b y x
 turned true x y = refl
@@ -166,11 +172,11 @@ turned false x y = refl
 
 pub image-answer : (buffer : List ℕ) → imageAnswer buffer ≡ toImage buffer
 unfolding imageAnswer toImage
-image-answer buffer = ap (λ (b : Bool). cond b Accepted (Rules.refused 7)) (room (length buffer)) ∙ turned (ltb (length buffer) 15) Accepted (Rules.refused 7)
+image-answer buffer = ap (λ (b : Bool). cond b Accepted (Rules.refused 7)) (room (length buffer)) ∙ turned (ltb (length buffer) 19) Accepted (Rules.refused 7)
 
-pub image-same : (h : History Event) (buffer : List ℕ) → imageBytes buffer (deviceOf h .ain .state .out) (deviceOf h .tot .state .out) (deviceOf h .ao .state .out) ≡ Rules.image h buffer
-unfolding imageBytes Rules.image deviceOf ainIn totIn aoIn
-image-same h buffer = ap (λ (b : Bool). cond b whole buffer) (room (length buffer)) ∙ turned (ltb (length buffer) 15) whole buffer
+pub image-same : (h : History Event) (buffer : List ℕ) → imageBytes buffer (deviceOf h .ain .state .out) (deviceOf h .tot .state .out) (deviceOf h .ao .state .out) (deviceOf h .di .state .out) (deviceOf h .dout .state .out) ≡ Rules.image h buffer
+unfolding imageBytes Rules.image deviceOf ainIn totIn aoIn diIn doutIn
+image-same h buffer = ap (λ (b : Bool). cond b whole buffer) (room (length buffer)) ∙ turned (ltb (length buffer) 19) whole buffer
   where
     whole : List ℕ
-    whole = fiveBytes (given 1 h) ++ fiveBytes (given 2 h) ++ fiveBytes (given 3 h) ++ drop 15 buffer
+    whole = fiveBytes (given 1 h) ++ fiveBytes (given 2 h) ++ fiveBytes (given 3 h) ++ twoBytes (discrete (given 4 h)) ++ twoBytes (discrete (given 5 h)) ++ drop 19 buffer

@@ -11,6 +11,7 @@ use Rattle.numbers.specs.Floats.{floatOf}
 use Rattle.scaling.specs.declared.Scale.{Scale}
 use Rattle.linearisation.specs.Table.{tableOf}
 use Rattle.wire.specs.declared.Pair.{Pair}
+use Rattle.wire.specs.declared.Discrete.{Discrete}
 use Rattle.blocks.specs.declared.Kept.{Kept}
 use Rattle.blocks.specs.Common as Common
 use Rattle.ain.specs.declared.Settings.{Settings as AinSettings}
@@ -25,7 +26,15 @@ use Rattle.ao.specs.declared.Settings.{Settings as AoSettings}
 use Rattle.ao.specs.declared.State.{State as AoState}
 use Rattle.ao.specs.declared.Input.{Input as Setpoint}
 use Rattle.ao.specs.State.{inputFrom, operatedBy, freshState, started, noTelegrams}
-use Rattle.ao.specs.FailSafe.{InputOf, emptied}
+use Rattle.blocks.specs.FailSafe.{InputOf, emptied}
+use Rattle.di.specs.declared.Settings.{Settings as DiSettings}
+use Rattle.di.specs.declared.State.{State as DiState}
+use Rattle.di.specs.declared.Kept.{Kept as KeptD}
+use Rattle.di.specs.State as Di
+use Rattle.dout.specs.declared.Settings.{Settings as DoutSettings}
+use Rattle.dout.specs.declared.State.{State as DoutState}
+use Rattle.dout.specs.declared.Input.{Input as SetpointD}
+use Rattle.dout.specs.State as Dout
 use Rattle.parameters.specs.declared.Words.{Words}
 use Rattle.parameters.specs.Table.{isStatic}
 use Rattle.parameters.specs.Table as Table
@@ -33,11 +42,13 @@ use Rattle.device.specs.declared.Device.{Device}
 use Rattle.device.specs.declared.AinBlock.{AinBlock}
 use Rattle.device.specs.declared.TotBlock.{TotBlock}
 use Rattle.device.specs.declared.AoBlock.{AoBlock}
+use Rattle.device.specs.declared.DiBlock.{DiBlock}
+use Rattle.device.specs.declared.DoutBlock.{DoutBlock}
 use Rattle.device.specs.Stored.{scaleOf, pairOf as pairWritten, ainSettings, totSettings, aoSettings, revAfter, enteredBy, operatorBy, ainWritten, totWritten, aoWritten, storedIn}
-use Rattle.device.specs.Factory.{ainBy, totBy, aoBy, factoryDevice}
+use Rattle.device.specs.Factory.{ainBy, totBy, aoBy, diBy, doutBy, factoryDevice}
 use Rattle.history.specs.Past.{History, start, _▷_, count, countSince, since, latest, told, carried}
 use Rattle.history.specs.Calls.{Fed, Seen, Event, wrote, words}
-use Rattle.history.specs.Rules.{pair, statics, outputs, among, defaults, orZeros, orElse, stored, wordsTo, never, code, float, scale, table, isStaticWrite, stRev, actual, lastOut, entersMan, handed, man, operator, filterValue, Sensor, lastUsable, analogIn, Alarm, hiHi, hi, lo, loLo, stands, rateValue, total, given, Drive, analogOut, outNumber, came, setpoint, silence, ifs, isTick, isStart, onTick, pairOn, holds, isUsable, isIfs, isUsableOn, isIfsOn, raises, clears}
+use Rattle.history.specs.Rules.{pair, statics, outputs, among, defaults, orZeros, orElse, stored, wordsTo, never, code, float, scale, table, isStaticWrite, stRev, actual, lastOut, entersMan, handed, man, operator, filterValue, Sensor, lastUsable, analogIn, discreteIn, Alarm, hiHi, hi, lo, loLo, stands, rateValue, total, given, Drive, analogOut, discreteOut, discrete, outNumber, came, setpoint, silence, ifs, isTick, isStart, onTick, pairOn, holds, isUsable, isIfs, isUsableOn, isIfsOn, raises, clears}
 use Rattle.history.proofs.Truth.{and-true, and-false}
 use Rattle.history.proofs.Lists.{static-same}
 
@@ -48,13 +59,20 @@ abbrev pub keptOf : Option Float → Kept
 keptOf none = Common.none
 keptOf (some x) = Common.kept x
 
+abbrev pub byteOf : Option ℕ → KeptD
+byteOf none = record { some = false; value = 0 }
+byteOf (some x) = record { some = true; value = x }
+
 -- a setpoint input by the rules; the count stops at 65,536
 unfoldable pub inputAt : {A : Type 0} → Drive A → ℕ → History Event → InputOf A
 inputAt d input h = record { some = came d input h; value = setpoint d input h; silence = cond (came d input h) (min (silence d input h) 65536) 0; ifs = ifs d input h }
 
--- and as AO holds it
+-- and as AO and DO hold it
 abbrev pub aoInput : ℕ → History Event → Setpoint
 aoInput input h = inputFrom (inputAt analogOut input h)
+
+abbrev pub doutInput : ℕ → History Event → SetpointD
+doutInput input h = Dout.inputFrom (inputAt discreteOut input h)
 
 unfoldable pub alarmsAt : History Event → Alarms
 alarmsAt h = record { «hi_hi» = stands hiHi h; hi = stands hi h; lo = stands lo h; «lo_lo» = stands loLo h }
@@ -99,6 +117,12 @@ aoOf w = record {
   «increase_close» = codeIn (w 36);
 }
 
+abbrev diOf : (ℕ → Words) → DiSettings
+diOf w = record { target = codeIn (w 5); invert = codeIn (w 15); «fsafe_type» = codeIn (w 20); «fsafe_val_d» = codeIn (w 21) }
+
+abbrev doutOf : (ℕ → Words) → DoutSettings
+doutOf w = record { target = codeIn (w 5); invert = codeIn (w 15); «fsafe_type» = codeIn (w 20); «fsafe_val_d» = codeIn (w 21); «fsafe_time» = codeIn (w 22) }
+
 unfoldable pub ainAt : History Event → AinSettings
 ainAt h = ainOf (stored h 1)
 
@@ -107,6 +131,12 @@ totAt h = totOf (stored h 2)
 
 unfoldable pub aoAt : History Event → AoSettings
 aoAt h = aoOf (stored h 3)
+
+unfoldable pub diAt : History Event → DiSettings
+diAt h = diOf (stored h 4)
+
+unfoldable pub doutAt : History Event → DoutSettings
+doutAt h = doutOf (stored h 5)
 
 unfoldable pub ainIn : History Event → AinState
 ainIn h = record { out = given 1 h; mode = actual 1 h; filter = keptOf (filterValue h); last = keptOf (lastUsable analogIn h); operator = operator 1 h; alarms = alarmsAt h }
@@ -117,6 +147,12 @@ totIn h = record { total = total h; out = given 2 h; mode = actual 2 h; rate = k
 unfoldable pub aoIn : History Event → AoState
 aoIn h = record { out = given 3 h; mode = actual 3 h; operator = operator 3 h; sp = aoInput 0 h; «rcas_in» = aoInput 1 h }
 
+unfoldable pub diIn : History Event → DiState
+diIn h = record { out = discrete (given 4 h); mode = actual 4 h; last = byteOf (lastUsable discreteIn h); operator = discrete (operator 4 h) }
+
+unfoldable pub doutIn : History Event → DoutState
+doutIn h = record { out = discrete (given 5 h); mode = actual 5 h; operator = discrete (operator 5 h); sp = doutInput 2 h; «rcas_in» = doutInput 3 h }
+
 abbrev pub ainBlock : History Event → AinBlock
 ainBlock h = record { settings = ainAt h; state = ainIn h; «st_rev» = stRev h 1; table = tableOf (table h) }
 
@@ -126,13 +162,19 @@ totBlock h = record { settings = totAt h; state = totIn h; «st_rev» = stRev h 
 abbrev pub aoBlock : History Event → AoBlock
 aoBlock h = record { settings = aoAt h; state = aoIn h; «st_rev» = stRev h 3 }
 
+abbrev pub diBlock : History Event → DiBlock
+diBlock h = record { settings = diAt h; state = diIn h; «st_rev» = stRev h 4 }
+
+abbrev pub doutBlock : History Event → DoutBlock
+doutBlock h = record { settings = doutAt h; state = doutIn h; «st_rev» = stRev h 5 }
+
 unfoldable pub deviceOf : History Event → Device
-deviceOf h = record { «write_locking» = code h 0 18; ain = ainBlock h; tot = totBlock h; ao = aoBlock h }
+deviceOf h = record { «write_locking» = code h 0 18; ain = ainBlock h; tot = totBlock h; ao = aoBlock h; di = diBlock h; dout = doutBlock h }
 
 -- ---- the factory call
 
 pub ruled-start : factoryDevice ≡ deviceOf start
-unfolding deviceOf factoryDevice ainBy totBy aoBy Table.defaultOf Table.defaultIn Table.rowsOf Table.physical Table.ain Table.tot Table.ao defaults stored latest table ainAt ainIn totAt totIn aoAt aoIn stRev count given actual operator filterValue lastUsable rateValue carried alarmsAt stands since Rattle.history.specs.Rules.total inputAt came setpoint silence countSince ifs freshState started noTelegrams emptied
+unfolding deviceOf factoryDevice ainBy totBy aoBy diBy doutBy Table.defaultOf Table.defaultIn Table.rowsOf Table.physical Table.ain Table.tot Table.ao Table.di Table.dout defaults stored latest table ainAt ainIn totAt totIn aoAt aoIn diAt diIn doutAt doutIn stRev count given actual operator filterValue lastUsable rateValue carried alarmsAt stands since Rattle.history.specs.Rules.total inputAt came setpoint silence countSince ifs freshState started noTelegrams Dout.freshState Dout.started Dout.noTelegrams emptied
 ruled-start = refl
 
 -- ---- what leaves a rule's value as it was
@@ -230,6 +272,15 @@ module _ (h : History Event) (e : Event) (still : Still e) where
       → record { total = z; out = given 2 h; mode = actual 2 h; rate = keptOf (rateValue h); «operator_status» = status } ≡ totIn (h ▷ e)
   unfolding totIn
   tot-left z status t o = λ i. record { total = t i; out = given-left 2 i; mode = actual-left 2 i; rate = keptOf (rate-left i); «operator_status» = o i }
+
+  pub di-left : (p : Discrete) → p ≡ discrete (operator 4 (h ▷ e)) → Di.operatedState (diIn h) p ≡ diIn (h ▷ e)
+  unfolding diIn
+  di-left p o = λ i. record { out = discrete (given-left 4 i); mode = actual-left 4 i; last = byteOf (last-left discreteIn i); operator = o i }
+
+  pub dout-left : (p : Discrete) (sp rcasIn : SetpointD) → p ≡ discrete (operator 5 (h ▷ e)) → sp ≡ doutInput 2 (h ▷ e) → rcasIn ≡ doutInput 3 (h ▷ e)
+      → record { out = discrete (given 5 h); mode = actual 5 h; operator = p; sp = sp; «rcas_in» = rcasIn } ≡ doutIn (h ▷ e)
+  unfolding doutIn
+  dout-left p sp rcasIn o u v = λ i. record { out = discrete (given-left 5 i); mode = actual-left 5 i; operator = o i; sp = u i; «rcas_in» = v i }
 
   pub ao-left : (p : Pair) (sp rcasIn : Setpoint) → p ≡ operator 3 (h ▷ e) → sp ≡ aoInput 0 (h ▷ e) → rcasIn ≡ aoInput 1 (h ▷ e)
       → record { out = given 3 h; mode = actual 3 h; operator = p; sp = sp; «rcas_in» = rcasIn } ≡ aoIn (h ▷ e)

@@ -15,7 +15,7 @@ use Rattle.history.specs.declared.Step.{Step}
 use Rattle.history.specs.declared.Found.{Found}
 use Rattle.history.specs.declared.Replayed.{Replayed}
 use Rattle.history.specs.Calls.{Call, fitting, allFit, after, reachedFrom, reached}
-use Rattle.history.specs.Encoded.{wordAt, pairAt, tickFound, writeFound, lentBy, telegramFound, loadFound, stepAt, isMalformed, callOf, more, callsFrom, decoded, Replays}
+use Rattle.history.specs.Encoded.{wordAt, pairAt, discreteAt, tickFound, writeFound, lentBy, telegramFound, loadFound, stepAt, isMalformed, callOf, more, callsFrom, decoded, Replays}
 use Rattle.history.proofs.Theorem.{demand-3}
 use Rattle.history.proofs.PointsProof.{points}
 use Rattle.history.proofs.CitedProof.{cited-points}
@@ -96,7 +96,7 @@ module _ (s : List ℕ) (bytes : (i : ℕ) → getD s i 0 < 256) where
       among false false f t = t
 
       tick-fits : Fits (tickFound s at)
-      tick-fits = among (ltb (length s - at) 12) (ltb 1 (getD s (at + 1) 0)) (record { step = Step.Tick (eqb (getD s (at + 1) 0) 1) (pairAt s (at + 2)) (pairAt s (at + 7)); next = at + 12 }) tt
+      tick-fits = among (ltb (length s - at) 14) (ltb 1 (getD s (at + 1) 0)) (record { step = Step.Tick (eqb (getD s (at + 1) 0) 1) (pairAt s (at + 2)) (pairAt s (at + 7)) (discreteAt s (at + 12)); next = at + 14 }) tt
 
       write-fits : Fits (writeFound s at)
       write-fits = among (ltb (length s - at) 11) false (record { step = Step.Write (getD s (at + 1) 0) (getD s (at + 2) 0) (wordAt s (at + 3)) (wordAt s (at + 7)); next = at + 11 }) (and-i (ltb (wordAt s (at + 3)) (2 ^ 32)) (ltb (wordAt s (at + 7)) (2 ^ 32)) (lt→ltb (wordAt s (at + 3)) (2 ^ 32) (word-small (at + 3))) (lt→ltb (wordAt s (at + 7)) (2 ^ 32) (word-small (at + 7))))

@@ -5,7 +5,9 @@ use mathlib.Core.Bool.{Bool, true, _&&_}
 use mathlib.Core.List.{List, [], _∷_}
 use lib.Dec.{ltb}
 use Rattle.wire.specs.declared.Pair.{Pair}
+use Rattle.wire.specs.declared.Discrete.{Discrete}
 use Rattle.ao.specs.declared.Order.{Order}
+use Rattle.dout.specs.declared.Order.{Order as OrderD}
 use Rattle.parameters.specs.declared.Words.{Words}
 use Rattle.device.specs.declared.Device.{Device}
 use Rattle.device.specs.declared.Ticked.{Ticked}
@@ -16,10 +18,11 @@ use Rattle.device.specs.Read.{readOf}
 use Rattle.device.specs.Calls.{writeOf, tickOf, telegramOf, loadOf, warmStarted}
 use Rattle.history.specs.Past.{History, start, _▷_}
 
--- C2: what a tick is fed beside the fault flag: the transducers' pairs for AIN and TOT
+-- C2, Q3.6: what a tick is fed beside the fault flag: the transducers' pairs for AIN, TOT and DI
 pub record Fed : Type 0 where
   pub ain : Pair
   pub tot : Pair
+  pub di : Discrete
 
 -- C2, C5 to C7, Q1.9b: a call with its arguments (reads move nothing and are left out)
 pub data Call : Type 0 where
@@ -41,11 +44,15 @@ abbrev pub allFit : List Call → Bool
 allFit [] = true
 allFit (c ∷ cs) = fitting c && allFit cs
 
--- R2: what is seen of a tick beside its arguments: OUT of AIN and of AO as read after it, and its answer, the drive order
+-- R2, Q3.11: what is seen of a tick beside its arguments: OUT of AIN and AO and OUT_D of DI and DO as read after it, and its answer, the drive orders
+-- of AO and DO
 pub record Seen : Type 0 where
   pub ain : Words
   pub ao : Words
+  pub di : Words
+  pub dout : Words
   pub order : Order
+  pub orderD : OrderD
 
 -- R2: what the rules see of a call
 pub data Event : Type 0 where
@@ -64,10 +71,17 @@ read (Refused r) = words 0 0
 
 -- a tick of a device, and what is seen of it
 abbrev pub tickedBy : Device → Bool → Fed → Ticked
-tickedBy d fault fed = tickOf d fault (fed .ain) (fed .tot)
+tickedBy d fault fed = tickOf d fault (fed .ain) (fed .tot) (fed .di)
 
 abbrev pub seenOf : Ticked → Seen
-seenOf t = record { ain = read (readOf (t .device) 1 10); ao = read (readOf (t .device) 3 37); order = t .order }
+seenOf t = record {
+  ain = read (readOf (t .device) 1 10);
+  ao = read (readOf (t .device) 3 37);
+  di = read (readOf (t .device) 4 10);
+  dout = read (readOf (t .device) 5 10);
+  order = t .order;
+  orderD = t .«order_d»;
+}
 
 -- the device after a call, and what is seen of the call
 unfoldable pub after : Device → Call → Device

@@ -16,21 +16,24 @@ use Rattle.scaling.specs.Scaling.{fractionOf, atFraction}
 use Rattle.linearisation.specs.declared.Point.{Point}
 use Rattle.linearisation.specs.Table.{pairsIn}
 use Rattle.wire.specs.declared.Pair.{Pair}
+use Rattle.wire.specs.declared.Discrete.{Discrete}
 use Rattle.wire.specs.declared.Received.{Received}
+use Rattle.wire.specs.declared.DiscreteReceived.{DiscreteReceived}
 use Rattle.wire.specs.Refusal.{answerNumber}
 use Rattle.wire.specs.Status.{qualityOf, subStatusOf, limitsOf}
 use Rattle.wire.specs.declared.Answer.the-variants.{Accepted}
-use Rattle.wire.specs.Bytes.{fiveBytes, pairOf}
+use Rattle.wire.specs.Bytes.{fiveBytes, pairOf, twoBytes, discreteOf}
 use Rattle.wire.specs.Image.{partOf, partPlace}
 use Rattle.tot.specs.Total.{incrementOf, thousandthsOf, sumOf, valueGiven}
+use Rattle.dout.specs.declared.Order.{Order as OrderD}
 use Rattle.parameters.specs.declared.Words.{Words}
 use Rattle.parameters.specs.declared.Class.{Class}
 use Rattle.parameters.specs.declared.Class.the-variants.{S, N, D, R}
 use Rattle.parameters.specs.Table.{Row, rowsOf, entryOf}
 use Rattle.history.specs.Past.{History, start, _▷_}
-use Rattle.history.specs.Calls.{Fed, Seen, Event, ticked, wrote, loaded, words}
+use Rattle.history.specs.Calls.{Fed, Seen, Event, ticked, telegram, wrote, loaded, words}
 use Rattle.history.specs.Rules.{pair, refused, allowedIn, among, statics, kepts, outputs, readOnlys, defaults, orZeros, toWrite, scaled, calculated}
-use Rattle.history.specs.Rules.{linear, toLoad, hi, standsWith, aoScaled, given}
+use Rattle.history.specs.Rules.{linear, toLoad, hi, standsWith, aoScaled, discrete, orderD, given}
 
 -- whole numbers as singles, and the singles at the ends
 abbrev whole : ℕ → Float
@@ -64,9 +67,9 @@ eight x y = four x ++ four y
 abbrev slope : List ℕ
 slope = eight 0 0 ++ eight 0x3f80_0000 0x4120_0000
 
--- Man in every block, so that OUT and TOTAL can be written, and a table, so that LIN_TYPE can be 1
+-- Man in every block, so that OUT, TOTAL and OUT_D can be written, and a table, so that LIN_TYPE can be 1
 abbrev inMan : History Event
-inMan = start ▷ loaded slope ▷ wrote 1 5 0x10 0 ▷ wrote 2 5 0x10 0 ▷ wrote 3 5 0x10 0
+inMan = start ▷ loaded slope ▷ wrote 1 5 0x10 0 ▷ wrote 2 5 0x10 0 ▷ wrote 3 5 0x10 0 ▷ wrote 4 5 0x10 0 ▷ wrote 5 5 0x10 0
 
 abbrev answered : ℕ → ℕ → List Words → List ℕ
 answered block number [] = []
@@ -88,6 +91,12 @@ one a = words a 0
 -- P10: a mode, RCas among them or not
 abbrev Modes : Bool → List Words → List Words → ℕ → ℕ → Type 0
 Modes withRcas = Takes (λ a b. (eqb a 0x80 || eqb a 0x10 || eqb a 0x08 || withRcas && eqb a 0x02) && eqb b 0)
+
+abbrev Three : ℕ → Type 0
+Three block = Modes false (one 0x80 ∷ one 0x10 ∷ one 0x08 ∷ []) (one 0x02 ∷ one 0 ∷ one 0x18 ∷ words 0x08 1 ∷ []) block 5
+
+abbrev Four : ℕ → Type 0
+Four block = Modes true (one 0x80 ∷ one 0x10 ∷ one 0x08 ∷ one 0x02 ∷ []) (one 0x04 ∷ one 0 ∷ one 0x0a ∷ words 0x02 1 ∷ []) block 5
 
 -- a whole number up to n
 abbrev UpTo : ℕ → ℕ → ℕ → Type 0
@@ -127,6 +136,10 @@ abbrev Output : ℕ → ℕ → Type 0
 Output =
     Takes (λ a b. finite (floatOf a) && leb b 255) (words largest 255 ∷ words smallest 0 ∷ [])
     (words infinity 0 ∷ words minusInfinity 0 ∷ words notANumber 0 ∷ words 0 256 ∷ [])
+
+-- Q3.4b: a discrete value and a status byte
+abbrev OutputD : ℕ → ℕ → Type 0
+OutputD = Takes (λ a b. leb a 1 && leb b 255) (words 0 255 ∷ words 1 0 ∷ []) (words 2 0 ∷ words 0x3f80_0000 0 ∷ words 0x100 0 ∷ words 0 256 ∷ [])
 
 -- ---- whole numbers
 
@@ -177,10 +190,11 @@ scales =
 abbrev filters : History Event
 filters = start ▷ wrote 1 11 0 0x4280_0000 ▷ wrote 1 12 0 0x4280_0000 ▷ wrote 1 16 0x3f00_0000 0
 
--- HI_LIM 80
+-- what is seen of a tick, with this read of AIN's OUT
 abbrev reads : Words → Seen → Seen
-reads out seen = record { ain = out; ao = seen .ao; order = seen .order }
+reads out seen = record { ain = out; ao = seen .ao; di = seen .di; dout = seen .dout; order = seen .order; orderD = seen .orderD }
 
+-- HI_LIM 80
 abbrev limited : History Event
 limited = start ▷ wrote 1 23 0x42a0_0000 0
 
@@ -219,8 +233,9 @@ numbered n = answerNumber (refused n)
 pub record Cited : Type 0 where
   -- B, C and D once more, of the rules' own words, whatever else the ticks carry: PV_SCALE 4, 20 and input 12 give 50 with 0x80; a filter step is `down`
   -- and `up` below; OUT 80 raises HI, after it 79.5 keeps it and 79.25 clears it
-  pub measured : (tot : Pair) (seen : Seen)
-      → given 1 (start ▷ wrote 1 11 0x4080_0000 0x41a0_0000 ▷ ticked false (record { ain = pair 0x4140_0000 0x80; tot = tot }) seen) ≡ pair 0x4248_0000 0x80
+  pub measured : (tot : Pair) (di : Discrete) (seen : Seen)
+      → given 1 (start ▷ wrote 1 11 0x4080_0000 0x41a0_0000
+      ▷ ticked false (record { ain = pair 0x4140_0000 0x80; tot = tot; di = di }) seen) ≡ pair 0x4248_0000 0x80
   pub alarm : (fed : Fed) (status : ℕ) (seen : Seen)
       → (standsWith hi limited 0x42a0_0000 ≡ true)
       × (standsWith hi (limited ▷ ticked false fed (reads (words 0x42a0_0000 status) seen)) 0x429f_0000 ≡ true)
@@ -238,6 +253,9 @@ pub record Cited : Type 0 where
   pub status : (n : ℕ) → (qualityOf n ≡ n / 64) × (subStatusOf n ≡ n / 4 % 16) × (limitsOf n ≡ n % 4)
   pub sent : (n status : ℕ) → fiveBytes (pair n status) ≡ n / 2 ^ 24 ∷ n / 2 ^ 16 % 256 ∷ n / 2 ^ 8 % 256 ∷ n % 256 ∷ status ∷ []
   pub received : (a b c d status : ℕ) → pairOf (a ∷ b ∷ c ∷ d ∷ status ∷ []) ≡ Received.Value (pair (a * 2 ^ 24 + b * 2 ^ 16 + c * 2 ^ 8 + d) status)
+  -- Q3.4a, Q3.7: those of two bytes
+  pub sentD : (value status : ℕ) → twoBytes (record { value = value; status = status }) ≡ value ∷ status ∷ []
+  pub receivedD : (value status : ℕ) → discreteOf (value ∷ status ∷ []) ≡ DiscreteReceived.Value (record { value = value; status = status })
   -- setpoint 15: f is 11 / 16, and 0.6875 × 12 + 3 is 11.25; closing, 0.3125 × 12 + 3 is 6.75
   pub setpoint : aoScaled scales (whole 15) ≡ floatOf 0x4134_0000
   pub closing : aoScaled (scales ▷ wrote 3 36 1 0) (whole 15) ≡ floatOf 0x40d8_0000
@@ -287,17 +305,34 @@ pub record Cited : Type 0 where
       × (loadedAs start (0 ∷ slope) ≡ 9) × (loadedAs start (eight 0x8000_0000 0 ++ eight 0 0) ≡ 10) × (loadedAs start (eight 0x3f80_0000 0 ++ eight 0 0) ≡ 10)
       × (loadedAs start (eight 0 infinity ++ eight 0x3f80_0000 0) ≡ 10) × (loadedAs start (eight 0 0 ++ eight notANumber 0) ≡ 10)
       × (loadedAs locked weir ≡ 4) × (loadedAs locked [] ≡ 4)
-  -- B2: a block's five bytes of a buffer with room for an image, and where they lie: five for each block before it behind the buffer's front
+  -- B2, Q3.9b: a block's bytes of a buffer with room for an image, and where they lie: five of each of AIN, TOT and AO, then two of each of DI and DO
   pub part : (s : List ℕ) (block : ℕ) (place : ℕ × ℕ)
-      → (partOf s block ≡ cond (leb 15 (length s) && leb 1 block && leb block 3) (take 5 (drop (5 * (block - 1)) s)) [])
-      × (partPlace place s block ≡ cond (leb 15 (length s) && leb 1 block && leb block 3) (place .0, 5 * (block - 1) + place .1) place)
+      → (partOf s block ≡ cond (leb 19 (length s) && leb 1 block && leb block 5)
+      (cond (leb block 3) (take 5 (drop (5 * (block - 1)) s)) (take 2 (drop (15 + 2 * (block - 4)) s))) [])
+      × (partPlace place s block ≡ cond (leb 19 (length s) && leb 1 block && leb block 5)
+      (place .0, cond (leb block 3) (5 * (block - 1)) (15 + 2 * (block - 4)) + place .1) place)
+  -- Q3.3, Q3.5: fresh DO gives FSAFE_VAL_D, 0 with 0x48, and goes there; under INVERT 1 to 1
+  pub sluice : (fed : Fed) (seen : Seen) → (given 5 (start ▷ ticked false fed seen) ≡ pair 0 0x48) × (orderD start false ≡ OrderD.Position 0)
+      × (given 5 (start ▷ wrote 5 15 1 0 ▷ ticked false fed seen) ≡ pair 1 0x48) × (orderD (start ▷ wrote 5 15 1 0) false ≡ OrderD.Position 1)
+  -- Q3.4b, Q3.7: of two bytes on SP_D 01 80 is a setpoint; 05 80 counts for nothing, and 05 A0 is IFS
+  pub sluiced : (orderD (start ▷ telegram 2 (1 ∷ 0x80 ∷ [])) false ≡ OrderD.Position 1)
+      × (orderD (start ▷ telegram 2 (1 ∷ 0x80 ∷ []) ▷ telegram 2 (5 ∷ 0x80 ∷ [])) false ≡ OrderD.Position 1)
+      × (orderD (start ▷ telegram 2 (1 ∷ 0x80 ∷ []) ▷ telegram 2 (5 ∷ 0xa0 ∷ [])) false ≡ OrderD.Position 0)
+      × (orderD (start ▷ wrote 5 20 2 0 ▷ telegram 2 (1 ∷ 0x80 ∷ []) ▷ telegram 2 (5 ∷ 0xa0 ∷ [])) false ≡ OrderD.Safe)
+  -- Q3.4b, Q3.5: DI as it comes, inverted, and fail-safe by FSAFE_VAL_D, which is not; under FSAFE_TYPE 2 another value than 0 and 1 leaves old OUT_D with
+  -- 0x04, or with its own Bad byte
+  pub contact : (ain tot : Pair) (seen : Seen)
+      → (given 4 (start ▷ ticked false (record { ain = ain; tot = tot; di = discrete (pair 0 0x83) }) seen) ≡ pair 0 0x83)
+      × (given 4 (start ▷ wrote 4 15 1 0 ▷ ticked false (record { ain = ain; tot = tot; di = discrete (pair 0 0x83) }) seen) ≡ pair 1 0x83)
+      × (given 4 (start ▷ wrote 4 15 1 0 ▷ wrote 4 21 1 0 ▷ ticked false (record { ain = ain; tot = tot; di = discrete (pair 0 0x0d) }) seen) ≡ pair 1 0x48)
+      × (given 4 (start ▷ wrote 4 20 2 0 ▷ ticked false (record { ain = ain; tot = tot; di = discrete (pair 7 0x80) }) seen) ≡ pair 0 0x04)
+      × (given 4 (start ▷ wrote 4 20 2 0 ▷ ticked false (record { ain = ain; tot = tot; di = discrete (pair 7 0x0d) }) seen) ≡ pair 0 0x0d)
   -- the rows' allowed words
   pub locks : Takes (λ a b. (eqb a 0 || eqb a 2457) && eqb b 0) (one 0 ∷ one 2457 ∷ []) (one 1 ∷ one 2456 ∷ one 32768 ∷ words 0 1 ∷ words 2457 1 ∷ []) 0 18
-  pub modes : Modes false (one 0x80 ∷ one 0x10 ∷ one 0x08 ∷ []) (one 0x02 ∷ one 0 ∷ one 0x18 ∷ words 0x08 1 ∷ []) 1 5
-      × Modes false (one 0x80 ∷ one 0x10 ∷ one 0x08 ∷ []) (one 0x02 ∷ one 0 ∷ one 0x18 ∷ words 0x08 1 ∷ []) 2 5
-      × Modes true (one 0x80 ∷ one 0x10 ∷ one 0x08 ∷ one 0x02 ∷ []) (one 0x04 ∷ one 0 ∷ one 0x0a ∷ words 0x02 1 ∷ []) 3 5
+  pub modes : Three 1 × Three 2 × Four 3 × Three 4 × Four 5
   pub ends : Ends 1 11 × Ends 1 12 × Ends 3 11 × Ends 3 38
   pub codes : UpTo 1 1 13 × UpTo 2 1 17 × UpTo 2 2 13 × UpTo 3 2 14 × UpTo 2 2 15 × UpTo 65535 3 23 × UpTo 2 3 24 × UpTo 1 3 36
+  pub codesD : UpTo 1 4 15 × UpTo 2 4 20 × UpTo 1 4 21 × UpTo 1 5 15 × UpTo 2 5 20 × UpTo 1 5 21 × UpTo 65535 5 22
   -- 0 to 3600, and ±10^9
   pub ranges : Within 0 0x8000_0001 0x4561_0000 0x4561_0001 1 16 × Within 0xce6e_6b28 0xce6e_6b29 0x4e6e_6b28 0x4e6e_6b29 2 16
   pub finites : Finite 1 18 × Finite 3 25
@@ -306,10 +341,10 @@ pub record Cited : Type 0 where
       (one 0x8000_0001 ∷ one infinity ∷ one notANumber ∷ words 0 1 ∷ []) 1 19
   pub limits : Limit false infinity minusInfinity 1 21 × Limit false infinity minusInfinity 1 23 × Limit true minusInfinity infinity 1 25
       × Limit true minusInfinity infinity 1 27
-  pub outs : Output 1 10 × Output 3 37
+  pub outs : Output 1 10 × Output 3 37 × OutputD 4 10 × OutputD 5 10
   -- P12a: ±10^9, and a status byte
   pub totals : Takes (λ a b. (le (floatOf 0xce6e_6b28) (floatOf a) && le (floatOf a) (floatOf 0x4e6e_6b28)) && leb b 255)
       (words 0x4e6e_6b28 255 ∷ words 0xce6e_6b28 0 ∷ [])
       (words 0x4e6e_6b29 0 ∷ words 0xce6e_6b29 0 ∷ words notANumber 0 ∷ words 0 256 ∷ []) 2 10
   -- the table's rows and the rules' lists
-  pub table : Agrees 0 × Agrees 1 × Agrees 2 × Agrees 3
+  pub table : Agrees 0 × Agrees 1 × Agrees 2 × Agrees 3 × Agrees 4 × Agrees 5

@@ -14,7 +14,7 @@ use Rattle.device.specs.Read.{readOf}
 use Rattle.device.specs.Calls.{telegramOf, writeOf, loadOf}
 use Rattle.history.specs.Past.{History, Each}
 use Rattle.history.specs.Calls.{Fed, Seen, Call, tick, write, load, warmStart, Event, ticked, telegram, wrote, loaded, warmed, event, reached, trace}
-use Rattle.history.specs.Rules.{isAuto, answer, accepted, calculated, filterValue, total, order, reading, toImage, image}
+use Rattle.history.specs.Rules.{isAuto, answer, accepted, calculated, filterValue, isBit, total, order, orderD, reading, toImage, image}
 
 -- R8: Good is quality 2, and not 3
 abbrev pub good : ℕ → Bool
@@ -22,10 +22,13 @@ good status = eqb (qualityOf status) 2
 
 -- what is claimed of a tick, by the accepted events before it
 pub record TickClaim (h : History Event) (fault : Bool) (fed : Fed) (seen : Seen) : Type 0 where
-  -- C3: its drive order, in every mode
+  -- C3, Q3.6: its drive orders, in every mode
   pub drive : seen .order ≡ order h fault
+  pub driveD : seen .orderD ≡ orderD h fault
   -- R8: in Auto AIN is Good exactly when its input was and the calculated value is finite
   pub quality : T (isAuto h fault 1) → good (seen .ain .second) ≡ (good (fed .ain .status) && finite (calculated h (filterValue h) (fed .ain)))
+  -- Q3.11: and DI exactly when its input was and its value is 0 or 1
+  pub qualityD : T (isAuto h fault 4) → good (seen .di .second) ≡ (good (fed .di .status) && isBit (fed .di .value))
 
 abbrev pub Tick : History Event → Event → Type 0
 Tick h (ticked fault fed seen) = TickClaim h fault fed seen
@@ -54,7 +57,8 @@ pub record Claimed (calls : List Call) (h : History Event) : Type 0 where
   pub next : (call : Call) → answers (reached calls) call ≡ answer h (event (reached calls) call)
   -- the image call's answer, and what it leaves in a buffer
   pub image : (buffer : List ℕ) → (imageAnswer buffer ≡ toImage buffer)
-      × (imageBytes buffer (reached calls .ain .state .out) (reached calls .tot .state .out) (reached calls .ao .state .out) ≡ image h buffer)
+      × (imageBytes buffer (reached calls .ain .state .out) (reached calls .tot .state .out) (reached calls .ao .state .out)
+      (reached calls .di .state .out) (reached calls .dout .state .out) ≡ image h buffer)
 
 -- R1: one claim about the whole list
 abbrev pub Claim : List Call → Type 0

@@ -7,6 +7,7 @@ use mathlib.Core.Option.{Option, none, some}
 use lib.Dec.{eqb, ltb}
 use lib.ListN.{length, getD, take, drop}
 use Rattle.wire.specs.declared.Pair.{Pair}
+use Rattle.wire.specs.declared.Discrete.{Discrete}
 use Rattle.wire.specs.Bytes.{wordOf}
 use Rattle.device.specs.Factory.{factoryDevice}
 use Rattle.history.specs.declared.Step.{Step}
@@ -21,12 +22,15 @@ use Rattle.history.specs.Claim.{Claim}
 use Rattle.history.specs.Points.{Points}
 use Rattle.history.specs.Cited.{Cited}
 
--- four bytes, highest first, and a pair
+-- four bytes, highest first, a pair, and a discrete one
 unfoldable pub wordAt : List ℕ → ℕ → ℕ
 wordAt s at = wordOf (getD s at 0) (getD s (at + 1) 0) (getD s (at + 2) 0) (getD s (at + 3) 0)
 
 unfoldable pub pairAt : List ℕ → ℕ → Pair
 pairAt s at = record { bits = wordAt s at; status = getD s (at + 4) 0 }
+
+unfoldable pub discreteAt : List ℕ → ℕ → Discrete
+discreteAt s at = record { value = getD s at 0; status = getD s (at + 1) 0 }
 
 -- the length of lent bytes: eight bytes
 abbrev pub lengthAt : List ℕ → ℕ → ℕ
@@ -38,11 +42,12 @@ found step next = record { step = step; next = next }
 abbrev pub bad : ℕ → Found
 bad at = found Malformed at
 
--- a tick is twelve bytes, its fault flag 0 or 1
+-- a tick is fourteen bytes, its fault flag 0 or 1
 unfoldable pub tickFound : List ℕ → ℕ → Found
 tickFound s at =
-    cond (ltb (length s - at) 12) (bad at)
-    (cond (ltb 1 (getD s (at + 1) 0)) (bad at) (found (Tick (eqb (getD s (at + 1) 0) 1) (pairAt s (at + 2)) (pairAt s (at + 7))) (at + 12)))
+    cond (ltb (length s - at) 14) (bad at)
+    (cond (ltb 1 (getD s (at + 1) 0)) (bad at)
+    (found (Tick (eqb (getD s (at + 1) 0) 1) (pairAt s (at + 2)) (pairAt s (at + 7)) (discreteAt s (at + 12))) (at + 14)))
 
 -- a write is eleven
 unfoldable pub writeFound : List ℕ → ℕ → Found
@@ -82,7 +87,7 @@ stepAt s at =
 
 abbrev pub isMalformed : Step → Bool
 isMalformed WarmStart = false
-isMalformed (Tick fault ain tot) = false
+isMalformed (Tick fault ain tot di) = false
 isMalformed (Write block number a b) = false
 isMalformed (Telegram input n) = false
 isMalformed (Load n) = false
@@ -91,7 +96,7 @@ isMalformed Malformed = true
 -- the call that it is; a telegram's bytes start ten places on, a load's nine
 abbrev pub callOf : List ℕ → ℕ → Step → Call
 callOf s at WarmStart = Call.warmStart
-callOf s at (Tick fault ain tot) = Call.tick fault (record { ain = ain; tot = tot })
+callOf s at (Tick fault ain tot di) = Call.tick fault (record { ain = ain; tot = tot; di = di })
 callOf s at (Write block number a b) = Call.write block number a b
 callOf s at (Telegram input n) = Call.telegram input (take n (drop (at + 10) s))
 callOf s at (Load n) = Call.load (take n (drop (at + 9) s))

@@ -7,6 +7,7 @@ use lib.IntN.{pos, negsuc}
 use lib.Ieee.{Float, binary32, ofInt, div}
 use Rattle.numbers.specs.Floats.{floatOf}
 use Rattle.wire.specs.declared.Pair.{Pair}
+use Rattle.wire.specs.declared.Discrete.{Discrete}
 use Rattle.wire.specs.Status.{qualityOf, subStatusOf, limitsOf}
 use Rattle.wire.specs.Bytes.{fiveBytes}
 use Rattle.blocks.specs.Common.{kept}
@@ -34,8 +35,8 @@ pub record Points : Type 0 where
   -- K1: the parts of a status byte
   pub a : (qualityOf 0x4e ≡ 1) × (subStatusOf 0x4e ≡ 3) × (limitsOf 0x4e ≡ 2)
   -- K2: an input at half of PV_SCALE, as bytes on the bus
-  pub b : (tot : Pair)
-      → fiveBytes (reached (write 1 11 0x4080_0000 0x41a0_0000 ∷ tick false (record { ain = record { bits = 0x4140_0000; status = 0x80 }; tot = tot }) ∷ []) .ain .state .out)
+  pub b : (tot : Pair) (di : Discrete)
+      → fiveBytes (reached (write 1 11 0x4080_0000 0x41a0_0000 ∷ tick false (record { ain = record { bits = 0x4140_0000; status = 0x80 }; tot = tot; di = di }) ∷ []) .ain .state .out)
       ≡ 0x42 ∷ 0x48 ∷ 0x00 ∷ 0x00 ∷ 0x80 ∷ []
   -- K3: a filter step by a sixteenth
   pub c : filtered (floatOf 0x3fc0_0000) (kept (whole 0))

@@ -1,5 +1,5 @@
--- The history rules of document 01, with requests 1 and 2 of document 02: what the head answers, from the accepted events alone (R2): the arguments of
--- calls, and OUT of AIN and AO as read after each tick. Every memory and every choice is said here. What is cited of other crates, arithmetic, encodings
+-- The history rules of document 01, with requests 1 to 3 of document 02: what the head answers, from the accepted events alone (R2): the arguments of
+-- calls, and OUT of AIN and AO and OUT_D of DI and DO as read after each tick. Every memory and every choice is said here. What is cited of other crates, arithmetic, encodings
 -- and the table's allowed words, is listed in tests/cited and pinned in Cited.
 -- A letter and number before a colon is a sentence of the paper, as docs/TRACE.md counts them. Assumes nothing.
 use Prim.Native.Nat.{ℕ, _+_, _*_, _%_}
@@ -20,13 +20,16 @@ use Rattle.linearisation.specs.Table.{pairsIn}
 use Rattle.wire.specs.declared.Pair.{Pair}
 use Rattle.wire.specs.declared.Answer.{Answer}
 use Rattle.wire.specs.declared.Answer.the-variants.{Accepted, Refused}
+use Rattle.wire.specs.declared.Discrete.{Discrete}
 use Rattle.wire.specs.declared.Received.{Received}
+use Rattle.wire.specs.declared.DiscreteReceived.{DiscreteReceived}
 use Rattle.wire.specs.Refusal.{ground}
 use Rattle.wire.specs.Status.{qualityOf, subStatusOf}
-use Rattle.wire.specs.Bytes.{fiveBytes, pairOf}
+use Rattle.wire.specs.Bytes.{fiveBytes, pairOf, twoBytes, discreteOf}
 use Rattle.tot.specs.Total.{incrementOf, thousandthsOf, sumOf, valueGiven}
 use Rattle.ao.specs.declared.Order.{Order}
 use Rattle.ao.specs.declared.Order.the-variants.{Position, Safe, Rest}
+use Rattle.dout.specs.declared.Order.{Order as OrderD}
 use Rattle.parameters.specs.declared.Words.{Words}
 use Rattle.parameters.specs.declared.Entry.{Entry}
 use Rattle.parameters.specs.declared.Entry.the-variants.{NoBlock, NoParameter, Parameter}
@@ -67,26 +70,31 @@ onTick f s other warmed = s
 abbrev pub pair : ℕ → ℕ → Pair
 pair bits status = record { bits = bits; status = status }
 
--- P1: what each block has, by its number, and a number that is no block's
-abbrev pub ofBlock : {A : Type 0} → A → A → A → A → A → ℕ → A
-ofBlock physical ain tot ao other block = cond (eqb block 0) physical (cond (eqb block 1) ain (cond (eqb block 2) tot (cond (eqb block 3) ao other)))
+-- P1, Q3.2a: what each block has, by its number, and a number that is no block's
+abbrev pub ofBlock : {A : Type 0} → A → A → A → A → A → A → A → ℕ → A
+ofBlock physical ain tot ao di dout other block =
+    cond (eqb block 0) physical
+    (cond (eqb block 1) ain (cond (eqb block 2) tot (cond (eqb block 3) ao (cond (eqb block 4) di (cond (eqb block 5) dout other)))))
 
 -- P3, P10 to P13e, Q1.3: the static parameters of AIN (TARGET_MODE, both scales, LIN_TYPE, PV_FTIME, type and value of the fail-safe, ALARM_HYS, four
 -- limits), of TOT (TARGET_MODE, FAIL_TOT, PRESET_TOT) and of AO (TARGET_MODE, PV_SCALE, time, type and value of the fail-safe, INCREASE_CLOSE, OUT_SCALE)
+-- Q3.2a, Q3.2b, Q3.3: of DI and DO (TARGET_MODE, INVERT, type and value of the fail-safe; of DO its time)
 unfoldable pub statics : ℕ → List ℕ
-statics = ofBlock [] (5 ∷ 11 ∷ 12 ∷ 13 ∷ 16 ∷ 17 ∷ 18 ∷ 19 ∷ 21 ∷ 23 ∷ 25 ∷ 27 ∷ []) (5 ∷ 15 ∷ 16 ∷ []) (5 ∷ 11 ∷ 23 ∷ 24 ∷ 25 ∷ 36 ∷ 38 ∷ []) []
+statics =
+    ofBlock [] (5 ∷ 11 ∷ 12 ∷ 13 ∷ 16 ∷ 17 ∷ 18 ∷ 19 ∷ 21 ∷ 23 ∷ 25 ∷ 27 ∷ []) (5 ∷ 15 ∷ 16 ∷ []) (5 ∷ 11 ∷ 23 ∷ 24 ∷ 25 ∷ 36 ∷ 38 ∷ [])
+    (5 ∷ 15 ∷ 20 ∷ 21 ∷ []) (5 ∷ 15 ∷ 20 ∷ 21 ∷ 22 ∷ []) []
 
 -- P3, P9, P12b, P12c: those that are kept and not counted: WRITE_LOCKING; SET_TOT and MODE_TOT. TOTAL, which is kept too, is among the outputs
 unfoldable pub kepts : ℕ → List ℕ
-kepts = ofBlock (18 ∷ []) [] (13 ∷ 14 ∷ []) [] []
+kepts = ofBlock (18 ∷ []) [] (13 ∷ 14 ∷ []) [] [] [] []
 
--- P11b, P12a, P13f: OUT of AIN, TOTAL, OUT of AO
+-- P11b, P12a, P13f, Q3.2a: OUT of AIN, TOTAL, OUT of AO, OUT_D of DI and of DO
 unfoldable pub outputs : ℕ → List ℕ
-outputs = ofBlock [] (10 ∷ []) (10 ∷ []) (37 ∷ []) []
+outputs = ofBlock [] (10 ∷ []) (10 ∷ []) (37 ∷ []) (10 ∷ []) (10 ∷ []) []
 
--- P3, P10, P11a: read only are ST_REV and the actual mode, in AIN also the alarms
+-- P3, P10, P11a, Q3.2a: read only are ST_REV and the actual mode, in AIN also the alarms
 unfoldable pub readOnlys : ℕ → List ℕ
-readOnlys = ofBlock [] (1 ∷ 6 ∷ 7 ∷ []) (1 ∷ 6 ∷ []) (1 ∷ 6 ∷ []) []
+readOnlys = ofBlock [] (1 ∷ 6 ∷ 7 ∷ []) (1 ∷ 6 ∷ []) (1 ∷ 6 ∷ []) (1 ∷ 6 ∷ []) (1 ∷ 6 ∷ []) []
 
 abbrev pub among : List ℕ → ℕ → Bool
 among [] number = false
@@ -95,7 +103,7 @@ among (n ∷ ns) number = eqb number n || among ns number
 unfoldable pub has : ℕ → ℕ → Bool
 has block number = among (statics block ++ kepts block ++ outputs block ++ readOnlys block) number
 
--- P4: a parameter and its default words; the lists leave out defaults of two zeros
+-- P4, Q3.3: a parameter and its default words; the lists leave out defaults of two zeros
 pub record Default : Type 0 where
   pub number : ℕ
   pub stands : Words
@@ -111,6 +119,8 @@ defaults =
     ∷ brackets 21 0x7f80_0000 0 ∷ brackets 23 0x7f80_0000 0 ∷ brackets 25 0xff80_0000 0 ∷ brackets 27 0xff80_0000 0 ∷ [])
     (brackets 5 0x08 0 ∷ [])
     (brackets 5 0x08 0 ∷ brackets 11 0 0x42c8_0000 ∷ brackets 24 1 0 ∷ brackets 38 0 0x42c8_0000 ∷ [])
+    (brackets 5 0x08 0 ∷ [])
+    (brackets 5 0x08 0 ∷ [])
     []
 
 abbrev pub orZeros : List Default → ℕ → Words
@@ -190,7 +200,7 @@ linear ps x = cond (finite x) (orElse (lowest ps x) (said ps x)) x
 
 -- ---- modes
 
--- P10: the codes of the modes
+-- P10, Q3.8a: the codes of the modes
 abbrev pub outOfService : ℕ
 outOfService = 0x80
 
@@ -232,21 +242,25 @@ refused n = Refused (ground n)
 abbrev pub lacksTable : History Event → ℕ → ℕ → ℕ → Bool
 lacksTable h block number a = eqb block 1 && eqb number 13 && eqb a 1 && not (tabled h)
 
--- F2 to F8: the grounds on which a write is refused, the first that is met: there is no such block (1); it has no such parameter (2); that one is read only
+-- F2 to F8, Q3.10: the grounds on which a write is refused, the first that is met: there is no such block (1); it has no such parameter (2); that one is read only
 -- (3); the device is locked and it isn't the lock (4); its words are not allowed, or it lacks a table (5); it is an output and the block's target isn't
 -- Man (6)
 unfoldable pub toWrite : History Event → ℕ → ℕ → ℕ → ℕ → Answer
 toWrite h block number a b =
-    cond (ltb 3 block) (refused 1)
+    cond (ltb 5 block) (refused 1)
     (cond (not (has block number)) (refused 2)
     (cond (among (readOnlys block) number) (refused 3)
     (cond (eqb (code h 0 18) 0 && not (eqb block 0)) (refused 4)
     (cond (not (allowedIn (entryOf block number) a b && not (lacksTable h block number a))) (refused 5)
     (cond (among (outputs block) number && not (eqb (code h block 5) man)) (refused 6) Accepted)))))
 
--- F2, F9, F10: a telegram is refused on an input other than 0 and 1 (8), and then if it has not five bytes (7)
+-- F9, Q3.7: a telegram has five bytes on AO's inputs, 0 and 1, and two on DO's, 2 and 3
+abbrev pub telegramBytes : ℕ → ℕ
+telegramBytes input = cond (ltb 1 input) 2 5
+
+-- F2, F9, F10, Q3.8a, Q3.10: a telegram is refused on any other input (8), and then if it has not its input's number of bytes (7)
 unfoldable pub toTelegram : ℕ → List ℕ → Answer
-toTelegram input bytes = cond (ltb 1 input) (refused 8) (cond (not (eqb (length bytes) 5)) (refused 7) Accepted)
+toTelegram input bytes = cond (ltb 3 input) (refused 8) (cond (not (eqb (length bytes) (telegramBytes input))) (refused 7) Accepted)
 
 -- Q1.3, Q1.11: whole pairs of eight bytes, from 2 to 21 of them
 unfoldable pub isWhole : ℕ → Bool
@@ -305,11 +319,12 @@ stRev h block = count (isStaticWrite block) h % 65536
 abbrev pub held : Pair → Pair
 held p = pair (p .bits) 0x1f
 
--- OUT of a block as read after a tick; asked of AIN and AO alone
+-- R2, Q3.11: OUT or OUT_D of a block as read after a tick, which is not done of TOT
 abbrev pub outIn : Seen → ℕ → Words
-outIn seen block = cond (eqb block 1) (seen .ain) (seen .ao)
+outIn seen = ofBlock (words 0 0) (seen .ain) (words 0 0) (seen .ao) (seen .di) (seen .dout) (words 0 0)
 
--- R6: what AIN and AO last gave, as the read of OUT after the last tick has it; at first 0, held at a start
+-- R6, Q3.11: what AIN, AO, DI and DO last gave, as the read of OUT or OUT_D after the last tick has it, a discrete value as its word; at first 0, held
+-- at a start
 unfoldable pub lastOut : ℕ → History Event → Pair
 lastOut block =
     carried (pair 0 0x1f)
@@ -319,15 +334,15 @@ lastOut block =
 unfoldable pub oldOut : ℕ → History Event → ℕ
 oldOut block h = lastOut block h .bits
 
--- Q2.4: AIN's or AO's target, another than Man, is changed to Man; Q2.5: over Man nothing is changed
+-- Q2.4, Q3.8a: the target of another block than TOT, another than Man, is changed to Man; Q2.5: over Man nothing is changed
 abbrev pub entersMan : ℕ → ℕ → ℕ → Bool
 entersMan block before after = not (eqb block 2) && not (eqb before man) && eqb after man
 
--- the number of OUT, and of TOTAL
+-- the number of OUT, TOTAL and OUT_D
 abbrev pub outNumber : ℕ → ℕ
 outNumber block = cond (eqb block 3) 37 10
 
--- P15: the pair that an event makes the operator's: the words of a write of OUT or TOTAL; Q2.4: at a write of the target that enters Man what
+-- P15: the pair that an event makes the operator's: the words of a write of OUT, TOTAL or OUT_D; Q2.4: at a write of the target that enters Man what
 -- was last given before it
 abbrev pub handed : ℕ → History Event → Event → Option Pair
 handed block h (ticked fault fed seen) = none
@@ -359,7 +374,7 @@ abbrev pub ifUsable : {A : Type 0} → Option ℕ → A → A → A
 ifUsable none a other = a
 ifUsable (some bad) a other = other
 
--- ---- an input block, over the type A of its values
+-- ---- an input block, AIN or DI, over the type A of its values (Q3.8b)
 
 -- what a tick makes of the transducer's pair: its Bad status, none where it is usable; the value calculated; the value as it comes, which FSAFE_TYPE 2
 -- gives, if there is one; the status of a usable tick
@@ -517,6 +532,29 @@ ainSensed h fed = record {
 abbrev pub analogIn : Sensor Float
 analogIn = record { block = 1; kind = 17; fallback = λ h. float h 1 18; word = bitsOf; sensed = ainSensed }
 
+-- ---- DI
+
+-- Q3.4a: a discrete value is 0 or 1
+abbrev pub isBit : ℕ → Bool
+isBit value = eqb value 0 || eqb value 1
+
+-- Q3.5: what INVERT 1 makes of a discrete value
+abbrev pub exchanged : ℕ → ℕ → ℕ
+exchanged invert value = cond (eqb invert 1) (cond (eqb value 0) 1 0) value
+
+-- Q3.4b, Q3.5: what a tick makes of DI's pair: INVERT stands where AIN scales; another value than 0 and 1 is Bad, 0x04, and leaves none to give
+unfoldable pub diSensed : History Event → Fed → Sensed ℕ
+diSensed h fed = record {
+  bad = badStatus (fed .di .status) true (isBit (fed .di .value));
+  value = exchanged (code h 4 15) (fed .di .value);
+  comes = cond (isBit (fed .di .value)) (some (exchanged (code h 4 15) (fed .di .value))) none;
+  status = fed .di .status;
+}
+
+-- FSAFE_VAL_D is given as it is
+abbrev pub discreteIn : Sensor ℕ
+discreteIn = record { block = 4; kind = 20; fallback = λ h. code h 4 21; word = λ value. value; sensed = diSensed }
+
 -- ---- TOT
 
 -- T5: TOT's Bad status; nothing is calculated of its value
@@ -583,7 +621,7 @@ totGives h fault tot =
     cond (isAuto h fault 2) (pair (bitsOf (valueGiven (totalBy h tot (total h)))) (totStatus h (tot .status) (totBad tot)))
     (pair (bitsOf (valueGiven (total h))) (operator 2 h .status))
 
--- ---- an output block, over the type A of its setpoints
+-- ---- an output block, AO or DO, over the type A of its setpoints (Q3.8b)
 
 -- the drive order, a position by the word of OUT
 pub data Move : Type 0 where
@@ -750,15 +788,49 @@ analogOrder rest = Rest
 unfoldable pub order : History Event → Bool → Order
 order h fault = analogOrder (driven analogOut h fault)
 
+-- ---- DO
+
+-- Q3.7: two bytes are a value with a status
+abbrev pub twoAs : DiscreteReceived → Option Pair
+twoAs (DiscreteReceived.Value d) = some (pair (d .value) (d .status))
+twoAs (DiscreteReceived.Refused r) = none
+
+-- Q3.2b, Q3.7: SP_D is input 2 and RCAS_IN_D is 3. Q3.4b: another setpoint than 0 and 1 counts as one that isn't finite. Q3.5: INVERT exchanges every
+-- working value, FSAFE_VAL_D too; there is always one
+abbrev pub discreteOut : Drive ℕ
+discreteOut = record {
+  block = 5;
+  sp = 2;
+  rcasIn = 3;
+  time = 22;
+  kind = 20;
+  fallback = λ h. code h 5 21;
+  zero = 0;
+  received = λ bytes. twoAs (discreteOf bytes);
+  fine = isBit;
+  value = λ word. word;
+  worked = λ h w. some (exchanged (code h 5 15) w);
+}
+
+-- Q3.6: DO's order as the tick answers it
+abbrev pub discreteOrder : Move → OrderD
+discreteOrder (position value) = OrderD.Position value
+discreteOrder safe = OrderD.Safe
+discreteOrder rest = OrderD.Rest
+
+unfoldable pub orderD : History Event → Bool → OrderD
+orderD h fault = discreteOrder (driven discreteOut h fault)
+
 -- ---- what reads give
 
--- P14b, M2 to M4, R17: the pair last given by AIN, TOT and AO: at first 0, held through O/S ticks and at a start
+-- P14b, M2 to M4, R17, Q3.8a: the pair last given by a block: at first 0, held through O/S ticks and at a start
 unfoldable pub given : ℕ → History Event → Pair
 given block =
     carried (pair 0 0x1f)
     (λ h e old. onTick
     (λ fault fed seen. cond (isOut h fault block) (held old)
-    (cond (eqb block 1) (senses analogIn h fault fed) (cond (eqb block 2) (totGives h fault (fed .tot)) (drives analogOut h fault .out))))
+    (ofBlock (held old) (senses analogIn h fault fed) (totGives h fault (fed .tot)) (drives analogOut h fault .out)
+    (senses discreteIn h fault fed) (drives discreteOut h fault .out) (held old) block))
     (held old) old e)
 
 -- P14a, P14b, P7: the words that a parameter reads with: outputs the pair last given, read-only ones a number and 0, all others what is stored
@@ -768,17 +840,25 @@ shown h block number =
     (cond (among (readOnlys block) number) (words (cond (eqb number 1) (stRev h block) (cond (eqb number 6) (actual block h) (alarmSum h))) 0)
     (stored h block number))
 
--- F2 to F4: a read is refused where there is no such block (1) or parameter (2)
+-- F2 to F4, Q3.10: a read is refused where there is no such block (1) or parameter (2)
 unfoldable pub reading : History Event → ℕ → ℕ → Reading
 reading h block number =
-    cond (ltb 3 block) (Reading.Refused (ground 1)) (cond (not (has block number)) (Reading.Refused (ground 2)) (Read (shown h block number)))
+    cond (ltb 5 block) (Reading.Refused (ground 1)) (cond (not (has block number)) (Reading.Refused (ground 2)) (Read (shown h block number)))
 
 -- ---- the bus image
 
--- F9: a buffer under 15 bytes is refused (7)
+-- F9, Q3.9a: a buffer under 19 bytes is refused (7)
 unfoldable pub toImage : List ℕ → Answer
-toImage buffer = cond (ltb (length buffer) 15) (refused 7) Accepted
+toImage buffer = cond (ltb (length buffer) 19) (refused 7) Accepted
 
--- B1: the pairs of AIN, TOT and AO, five bytes each, in front of a buffer that has room for them; its other bytes, and those of another buffer, as they were
+-- a block's discrete pair
+abbrev pub discrete : Pair → Discrete
+discrete p = record { value = p .bits; status = p .status }
+
+-- B1, Q3.9a: the pairs of AIN, TOT and AO, five bytes each, and of DI and DO, two each, in front of a buffer that has room for them; its other bytes, and
+-- those of another buffer, as they were
 unfoldable pub image : History Event → List ℕ → List ℕ
-image h buffer = cond (ltb (length buffer) 15) buffer (fiveBytes (given 1 h) ++ fiveBytes (given 2 h) ++ fiveBytes (given 3 h) ++ drop 15 buffer)
+image h buffer =
+    cond (ltb (length buffer) 19) buffer
+    (fiveBytes (given 1 h) ++ fiveBytes (given 2 h) ++ fiveBytes (given 3 h) ++ twoBytes (discrete (given 4 h)) ++ twoBytes (discrete (given 5 h))
+    ++ drop 19 buffer)

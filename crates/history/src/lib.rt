@@ -3,26 +3,27 @@
 //
 // A call is encoded as a byte that says which, and its arguments, words highest byte first:
 //   0                                                     warm start
-//   1 fault, AIN's bits (4) and status, TOT's bits (4) and status      tick; fault is 0 or 1
+//   1 fault, AIN's bits (4) and status, TOT's bits (4) and status, DI's value and status   tick; fault is 0 or 1
 //   2 block, parameter, first word (4), second word (4)   write
 //   3 input, length (8), that many bytes                  telegram
 //   4 length (8), that many bytes                         load
 ghost use mathlib.Core.Path.{_≡_};
 ghost use Prim.Native.Nat.{_+_, _<_, _≤_, _^_};
 ghost use lib.ListN.{getD, take, drop, length};
-ghost use Rattle.history.specs.Encoded.{wordAt, pairAt, found, tickFound, writeFound, lentBy, telegramFound, loadFound, stepAt, isMalformed, callOf, Replays, heard};
+ghost use Rattle.history.specs.Encoded.{wordAt, pairAt, discreteAt, found, tickFound, writeFound, lentBy, telegramFound, loadFound, stepAt, isMalformed, callOf, Replays, heard};
 ghost use Rattle.history.specs.Calls.{after};
 ghost use Rattle.history.specs.Rules as Rules;
 use ao::Order;
 use device::Device;
 use device::Reading;
 use wire::Answer;
+use wire::Discrete;
 use wire::Pair;
 
 // A call as it stands in an encoded list; a telegram by its input and length, a load by its length.
 pub enum Step {
     WarmStart,
-    Tick(bool, Pair, Pair),
+    Tick(bool, Pair, Pair, Discrete),
     Write(u8, u8, u32, u32),
     Telegram(u8, usize),
     Load(usize),
@@ -73,6 +74,18 @@ fn pair_at(s: &[u8], at: usize) -> Pair
     }
 }
 
+fn discrete_at(s: &[u8], at: usize) -> Discrete
+    requires { ⌜ at < 2 ^ 63 ⌝ }
+    ensures { λ r. ⌜ r ≡ discreteAt (now (s .entry)) at ⌝ }
+{
+    let value = byte_at(s, at);
+    let status = byte_at(s, at + 1);
+    Discrete {
+        value: value,
+        status: status,
+    }
+}
+
 fn malformed(at: usize) -> Found
     ensures { λ r. ⌜ r ≡ found Step.Malformed at ⌝ }
 {
@@ -87,19 +100,20 @@ fn tick_at(s: &[u8], at: usize) -> Found
     ensures { λ r. ⌜ r ≡ tickFound (now (s .entry)) at ⌝ }
 {
     let left = s.len() - at;
-    if left < 12 {
+    if left < 14 {
         return malformed(at);
     }
     let fault = byte_at(s, at + 1);
     let ain = pair_at(s, at + 2);
     let tot = pair_at(s, at + 7);
+    let di = discrete_at(s, at + 12);
     let set = fault == 1;
     if 1 < fault {
         return malformed(at);
     }
     Found {
-        step: Step::Tick(set, ain, tot),
-        next: at + 12,
+        step: Step::Tick(set, ain, tot, di),
+        next: at + 14,
     }
 }
 
@@ -228,7 +242,7 @@ fn is_malformed(step: Step) -> bool
 {
     match step {
         Step::WarmStart => false,
-        Step::Tick(_, _, _) => false,
+        Step::Tick(_, _, _, _) => false,
         Step::Write(_, _, _, _) => false,
         Step::Telegram(_, _) => false,
         Step::Load(_) => false,
@@ -243,8 +257,8 @@ fn made(d: Device, s: &[u8], at: usize, step: Step) -> Device
 {
     match step {
         Step::WarmStart => device::warm_start(d),
-        Step::Tick(fault, ain, tot) => {
-            let ticked = device::tick(d, fault, ain, tot);
+        Step::Tick(fault, ain, tot, di) => {
+            let ticked = device::tick(d, fault, ain, tot, di);
             ticked.device
         }
         Step::Write(block, parameter, a, b) => {
@@ -316,13 +330,21 @@ pub fn total_after(calls: &[u8]) -> i64
     device::total(replayed.device)
 }
 
-// The drive order of a tick.
-pub fn order_after(calls: &[u8], fault: bool, ain: Pair, tot: Pair) -> Order
+// The drive orders of a tick, AO's and DO's.
+pub fn order_after(calls: &[u8], fault: bool, ain: Pair, tot: Pair, di: Discrete) -> Order
     ensures { λ r. ⌜ r ≡ Rules.order (heard (now (calls .entry))) fault ⌝ }
 {
     let replayed = replay(calls);
-    let ticked = device::tick(replayed.device, fault, ain, tot);
+    let ticked = device::tick(replayed.device, fault, ain, tot, di);
     ticked.order
+}
+
+pub fn order_d_after(calls: &[u8], fault: bool, ain: Pair, tot: Pair, di: Discrete) -> dout::Order
+    ensures { λ r. ⌜ r ≡ Rules.orderD (heard (now (calls .entry))) fault ⌝ }
+{
+    let replayed = replay(calls);
+    let ticked = device::tick(replayed.device, fault, ain, tot, di);
+    ticked.order_d
 }
 
 pub fn write_after(calls: &[u8], block: u8, parameter: u8, a: u32, b: u32) -> Answer
