@@ -49,7 +49,7 @@ pub out-finite : (s : Settings) (x : State) (fault : Bool) → finite (floatOf (
 unfolding tickOf tickedWith givenIn givenByInput givenBy
 out-finite s x fault h o =
     given-holds finiteBits (actualMode fault (s .target)) (x .out .bits) (x .operator .bits) (x .operator .status) _ h o
-    (led-holds finiteBits (outOf s) (x .out .bits) h (out-of-finite s) _)
+    (led-holds (λ (w : Float). Unit) finiteBits (outOf s) (x .out .bits) h (λ w u. out-of-finite s w) (s .«fsafe_time») (s .«fsafe_type») _ _ tt tt)
   where
     finiteBits : ℕ → Type 0
     finiteBits bits = finite (floatOf bits) ≡ true

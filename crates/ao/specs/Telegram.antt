@@ -29,7 +29,7 @@ takenOn state input pair =
 
 -- what bytes stand for, and a state with the answer, as the rules have them and as the code does
 abbrev pub received : Received → ReceivedOf Pair
-received (Received.Value pair) = ReceivedOf.value pair
+received (Received.Value pair) = ReceivedOf.accepted pair
 received (Received.Refused r) = ReceivedOf.refused r
 
 abbrev pub takenFrom : TakenOf State → Taken

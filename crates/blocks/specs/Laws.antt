@@ -1,11 +1,12 @@
--- Laws that are the same for AO and DO, over any kind of value: what a status byte says of a telegram, refused telegrams, the count that stops, the decision,
--- and what holds of every value given. Assumes nothing.
-use mathlib.Core.Path.{_≡_, refl, sym, ap}
+-- Laws that are the same for several blocks, over any kind of value. AIN and DI: when a tick is Good, and what holds of every value given. AO and DO: what a
+-- status byte says of a telegram, refused telegrams, the count that stops, the decision, and what holds of every value given. Discrete values: that INVERT
+-- leads to one. Assumes nothing.
+use mathlib.Core.Path.{_≡_, refl, sym, ap, _∙_}
 use mathlib.Core.Bool.{Bool, true, false, cond, not, _&&_, _||_, true≢false}
 use mathlib.Core.Option.{Option, none, some}
 use Prim.Native.Nat.{ℕ, _+_, _≤_, min}
 use native.Mathlib.Omega.{arith}
-use borrow.Author.Tests.{lt-ltb, le-ltb, ltb-true, ltb-false}
+use borrow.Author.Tests.{eqb-true, lt-ltb, le-ltb, ltb-true, ltb-false}
 use lib.Dec.{eqb, ltb}
 use Rattle.wire.specs.Status.{qualityOf, subStatusOf}
 use Rattle.wire.specs.declared.Refusal.{Refusal}
@@ -13,10 +14,131 @@ use Rattle.wire.specs.declared.Answer.{Answer}
 use Rattle.wire.specs.Refusal.{ground}
 use Rattle.blocks.specs.declared.Class.{Class}
 use Rattle.blocks.specs.declared.Class.the-variants.{Usable, InitiateFailSafe, Neither}
-use Rattle.blocks.specs.Common.{outOfService, man}
+use Rattle.blocks.specs.declared.Input.{Input}
+use Rattle.blocks.specs.declared.Input.the-variants.{Usable as UsableInput, Bad}
+use Rattle.blocks.specs.Common.{PairOf, outOfService, man, inMode, inputStatus, good}
+use Rattle.blocks.specs.Discrete.{isDiscrete, exchanged, inverted, discreteValue}
+use Rattle.blocks.specs.InputBlock.{lastUsableOr, scaledOrOld, failSafePair}
 use Rattle.blocks.specs.FailSafe.{classOf, classNumber, usable, initiates, InputOf, afterTelegram, silenceAfter, failSafeActs, failSafeCase, caseOf}
 use Rattle.blocks.specs.FailSafe.{Case, following, fallback, held, nothingHeld, safety, rest, GivenOf, positioned, scaledOr, leadsTo, byMode}
-use Rattle.blocks.specs.Output.{ReceivedOf, value, refused, refusedWith, receivedBy, telegramBy}
+use Rattle.blocks.specs.Output.{ReceivedOf, accepted, refused, refusedWith, receivedBy, telegramBy}
+
+-- ---- discrete values
+
+pub inverted-discrete : (invert value : ℕ) → isDiscrete value ≡ true → isDiscrete (inverted invert value) ≡ true
+unfolding inverted
+inverted-discrete invert value h = go (eqb invert 1) (eqb value 0) (eqb value 1)
+  where
+    go : (a b c : Bool) → isDiscrete (cond a (cond b 1 (cond c 0 value)) value) ≡ true
+    go true true c = refl
+    go true false true = refl
+    go true false false = h
+    go false b c = h
+
+-- INVERT twice is none.
+pub inverted-twice : (invert value : ℕ) → inverted invert (inverted invert value) ≡ value
+unfolding inverted
+inverted-twice invert value = go (eqb invert 1) (eqb value 0) refl (eqb value 1) refl
+  where
+    go : (a b : Bool) → eqb value 0 ≡ b → (c : Bool) → eqb value 1 ≡ c
+        → cond a (exchanged (cond a (cond b 1 (cond c 0 value)) value)) (cond a (cond b 1 (cond c 0 value)) value) ≡ value
+    go true true eb c ec = sym (eqb-true value 0 eb)
+    go true false eb true ec = sym (eqb-true value 1 ec)
+    go true false eb false ec = rw (eb, ec)
+    go false b eb c ec = refl
+
+pub value-discrete : (code : ℕ) → isDiscrete (discreteValue code) ≡ true
+unfolding discreteValue
+value-discrete code = go (eqb code 1)
+  where
+    go : (b : Bool) → isDiscrete (cond b 1 0) ≡ true
+    go true = refl
+    go false = refl
+
+-- ---- input blocks, for any kind of value
+
+-- Whatever holds in each mode holds.
+pub mode-holds : {X : Type 0} (P : X → Type 0) (mode : ℕ) (inOutOfService inMan inAuto : X) → P inOutOfService → P inMan → P inAuto
+    → P (inMode mode inOutOfService inMan inAuto)
+mode-holds P mode x y z p q r = go (eqb mode outOfService) (eqb mode man)
+  where
+    go : (a b : Bool) → P (cond a x (cond b y z))
+    go true b = p
+    go false true = q
+    go false false = r
+
+module _ {A : Type 0} (zero : A) (kind : ℕ) (fsafeValue : A) (last scaled : Option A) (old : A) (bad : ℕ) where
+  -- A8: what fail-safe gives is not Good, as no Bad status is.
+  pub fail-safe-not-good : good bad ≡ false → good (failSafePair zero kind fsafeValue last scaled old bad .status) ≡ false
+  unfolding failSafePair
+  fail-safe-not-good h = go (eqb kind 0) (eqb kind 1) last scaled
+    where
+      go : (a b : Bool) (x y : Option A)
+          → good (cond a (record { value = fsafeValue; status = 0x48 }) (cond b (lastUsableOr zero x) (scaledOrOld old bad y)) .status) ≡ false
+      go true b x y = refl
+      go false true none y = refl
+      go false true (some x) y = refl
+      go false false x none = h
+      go false false x (some y) = h
+
+  -- Whatever holds of each value that fail-safe can give holds of the one given.
+  pub fail-safe-holds : (P : A → Type 0) → P zero → P fsafeValue → ((x : A) → last ≡ some x → P x) → ((x : A) → scaled ≡ some x → P x) → P old
+      → P (failSafePair zero kind fsafeValue last scaled old bad .value)
+  unfolding failSafePair
+  fail-safe-holds P z f l c o = go (eqb kind 0) (eqb kind 1) last l scaled c
+    where
+      go : (a b : Bool) (x : Option A) → ((v : A) → x ≡ some v → P v) → (y : Option A) → ((v : A) → y ≡ some v → P v)
+          → P (cond a (record { value = fsafeValue; status = 0x48 }) (cond b (lastUsableOr zero x) (scaledOrOld old bad y)) .value)
+      go true b x l y c = f
+      go false true none l y c = z
+      go false true (some v) l y c = l v refl
+      go false false x l none c = o
+      go false false x l (some v) c = c v refl
+
+-- A5: a status that is Bad by itself or counts as Bad is not Good
+other-quality : (status k : ℕ) → eqb (qualityOf status) k ≡ true → eqb k 2 ≡ false → good status ≡ false
+other-quality status k h n = ap (λ (q : ℕ). eqb q 2) (eqb-true (qualityOf status) k h) ∙ n
+
+and-false : (b : Bool) → b && false ≡ false
+and-false true = refl
+and-false false = refl
+
+and-true : (b : Bool) → b && true ≡ b
+and-true true = refl
+and-true false = refl
+
+module _ (status : ℕ) (value calculated : Bool) where
+  -- Whatever a tick gives for each Bad status, and for a usable input where value and calculated value pass, it gives for the input.
+  pub input-holds : {X : Type 0} (P : X → Type 0) (given : Input → X) → ((bad : ℕ) → P (given (Bad bad)))
+      → (value ≡ true → calculated ≡ true → P (given UsableInput)) → P (given (inputStatus status value calculated))
+  unfolding inputStatus
+  input-holds P given b u = go (eqb (qualityOf status) 3) (eqb (qualityOf status) 0) value calculated u
+    where
+      go : (c z v k : Bool) → (v ≡ true → k ≡ true → P (given UsableInput))
+          → P (given (cond c (Bad 0x04) (cond z (Bad status) (cond (not v) (Bad 0x10) (cond (not k) (Bad 0x04) UsableInput)))))
+      go true z v k u = b 0x04
+      go false true v k u = b status
+      go false false false k u = b 0x10
+      go false false true false u = b 0x04
+      go false false true true u = u refl refl
+
+  -- Where no Bad status leads to a Good one, and a usable input gives a Good one exactly for a Good input: Good is given exactly for a Good input whose value
+  -- and calculated value pass.
+  pub good-by-input : (given : Input → ℕ) → ((bad : ℕ) → good bad ≡ false → good (given (Bad bad)) ≡ false) → good (given UsableInput) ≡ good status
+      → good (given (inputStatus status value calculated)) ≡ good status && (value && calculated)
+  unfolding inputStatus
+  good-by-input given b u = go (eqb (qualityOf status) 3) refl (eqb (qualityOf status) 0) refl value calculated
+    where
+      also : Bool → Bool → Bool
+      also passed g = g && passed
+
+      go : (c : Bool) → eqb (qualityOf status) 3 ≡ c → (z : Bool) → eqb (qualityOf status) 0 ≡ z → (v k : Bool)
+          → good (given (cond c (Bad 0x04) (cond z (Bad status) (cond (not v) (Bad 0x10) (cond (not k) (Bad 0x04) UsableInput))))) ≡ good status && (v && k)
+      go true ec z ez v k = b 0x04 refl ∙ sym (ap (also (v && k)) (other-quality status 3 ec refl))
+      go false ec true ez v k = let q : good status ≡ false = other-quality status 0 ez refl in b status q ∙ sym (ap (also (v && k)) q)
+      go false ec false ez false k = b 0x10 refl ∙ sym (and-false (good status))
+      go false ec false ez true false = b 0x04 refl ∙ sym (and-false (good status))
+      go false ec false ez true true = u ∙ sym (and-true (good status))
 
 -- ---- telegrams
 
@@ -74,7 +196,7 @@ pub refused-keeps : {S P : Type 0} (lacking : Bool) (take : P → S) (state : S)
 unfolding telegramBy
 refused-keeps true take state received r h = refl
 refused-keeps false take state (refused q) r h = refl
-refused-keeps false take state (value p) r h = let z : _≡_ {A = ℕ} 0 1 = cc in absurd (omega arith)
+refused-keeps false take state (accepted p) r h = let z : _≡_ {A = ℕ} 0 1 = cc in absurd (omega arith)
 
 -- ---- the count
 
@@ -104,19 +226,43 @@ module _ {A : Type 0} (time kind : ℕ) (fsafeValue : A) (input : InputOf A) whe
   unfolding caseOf
   case-following h = rw h
 
--- Whatever holds of old OUT, of the operator's value and of all that scaling leads to holds of the value given.
-module _ {A O : Type 0} (P : O → Type 0) (scaled : A → Option O) (old : O) (kept : P old) (each : (w : A) (out : O) → scaled w ≡ some out → P out) where
+-- An input's value after a telegram: whatever holds of it before, and of the telegram's where that passes, holds after it.
+pub after-telegram-holds : {A : Type 0} (Q : A → Type 0) (status : ℕ) (finiteValue : Bool) (value : A) (input : InputOf A)
+    → Q (input .value) → (finiteValue ≡ true → Q value) → Q (afterTelegram status finiteValue value input .value)
+unfolding afterTelegram usable
+after-telegram-holds {A} Q status finiteValue value input old new = go (eqb (classNumber (classOf status)) 1) finiteValue new (initiates status)
+  where
+    go : (a f : Bool) → (f ≡ true → Q value) → (i : Bool)
+        → Q (cond {A = InputOf A} (a && f) (record { some = true; value = value; silence = 0; ifs = false })
+        (cond i (record { some = input .some; value = input .value; silence = input .silence; ifs = true }) input) .value)
+    go true true new i = new refl
+    go true false new true = old
+    go true false new false = old
+    go false f new true = old
+    go false f new false = old
+
+-- Whatever holds of old OUT and of all that scaling leads to, from FSAFE_VALUE and from the input's value, holds of the value that a case leads to. What is
+-- known of these two is Q.
+module _ {A O : Type 0} (Q : A → Type 0) (P : O → Type 0) (scaled : A → Option O) (old : O) (kept : P old)
+    (each : (w : A) → Q w → (out : O) → scaled w ≡ some out → P out) where
   scaled-holds : (status : ℕ) (o : Option O) → ((out : O) → o ≡ some out → P out) → P (scaledOr old status o .value)
   scaled-holds status none h = kept
   scaled-holds status (some out) h = h out refl
 
-  pub led-holds : (c : Case A) → P (leadsTo scaled old c .value)
-  unfolding leadsTo
-  led-holds (following w) = scaled-holds 0x80 (scaled w) (each w)
-  led-holds (fallback w) = scaled-holds 0x48 (scaled w) (each w)
-  led-holds (held w) = scaled-holds 0x44 (scaled w) (each w)
-  led-holds nothingHeld = kept
-  led-holds safety = kept
+  pub led-holds : (time kind : ℕ) (fsafeValue : A) (input : InputOf A) → Q fsafeValue → Q (input .value)
+      → P (leadsTo scaled old (caseOf time kind fsafeValue input) .value)
+  unfolding leadsTo caseOf failSafeCase
+  led-holds time kind fsafeValue input f v =
+      go (failSafeActs (input .some) (input .silence) (input .ifs) time) (eqb kind 0) (eqb kind 1) (input .some)
+    where
+      go : (a b c d : Bool)
+          → P (leadsTo scaled old
+          (cond a (cond b (fallback fsafeValue) (cond c (cond d (held (input .value)) nothingHeld) safety)) (following (input .value))) .value)
+      go true true c d = scaled-holds 0x48 (scaled fsafeValue) (each fsafeValue f)
+      go true false true true = scaled-holds 0x44 (scaled (input .value)) (each (input .value) v)
+      go true false true false = kept
+      go true false false d = kept
+      go false b c d = scaled-holds 0x80 (scaled (input .value)) (each (input .value) v)
 
 pub given-holds : {O : Type 0} (P : O → Type 0) (mode : ℕ) (old operator : O) (operatorStatus : ℕ) (led : GivenOf O) → P old → P operator → P (led .value)
     → P (byMode mode old operator operatorStatus led .value)

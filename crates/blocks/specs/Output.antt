@@ -8,7 +8,7 @@ use Rattle.wire.specs.Refusal.{ground}
 
 -- what a telegram's bytes stand for: a pair, or the ground of its refusal
 pub data ReceivedOf (P : Type 0) : Type 0 where
-  value : P → ReceivedOf P
+  accepted : P → ReceivedOf P
   refused : Refusal → ReceivedOf P
 
 -- the state after a telegram, and the answer
@@ -22,7 +22,7 @@ refusedWith state r = record { state = state; answer = Answer.Refused r }
 
 -- by what its bytes stand for: `take` is the state after a pair
 abbrev pub receivedBy : {S P : Type 0} → (P → S) → S → ReceivedOf P → TakenOf S
-receivedBy take state (value pair) = record { state = take pair; answer = Answer.Accepted }
+receivedBy take state (accepted pair) = record { state = take pair; answer = Answer.Accepted }
 receivedBy take state (refused r) = refusedWith state r
 
 -- F2, F9, F10: refused first for an input that the block lacks, as the flag says, then for its length

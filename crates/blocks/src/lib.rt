@@ -4,7 +4,10 @@
 // 02, request 2).
 ghost use mathlib.Core.Path.{_≡_};
 ghost use Rattle.blocks.specs.FailSafe.{classOf, silenceAfter, failSafeActs};
-ghost use Rattle.blocks.specs.Common.{actualMode, heldOut, freshOperator, operatorAfter, none, kept, inputStatus};
+ghost use Rattle.blocks.specs.Common.{actualMode, heldOut, heldOutD, freshOperator, freshOperatorD, enteredMan, operatorAfter};
+ghost use Rattle.blocks.specs.Common.{none, kept, inputStatus};
+ghost use Rattle.blocks.specs.Discrete.{isDiscrete, discreteValue};
+use wire::Discrete;
 use wire::Pair;
 
 // The codes of the modes.
@@ -15,6 +18,11 @@ pub const MAN: u32 = 0x10;
 pub const AUTO: u32 = 0x08;
 
 pub const RCAS: u32 = 0x02;
+
+// The status of an output that is only held, and of a fresh operator's pair.
+pub const HELD_STATUS: u8 = 0x1f;
+
+pub const FRESH_STATUS: u8 = 0x4c;
 
 // A value that may be missing; while it is, the value is 0.
 #[repr(C)]
@@ -52,7 +60,17 @@ pub fn held(out: Pair) -> Pair
 {
     Pair {
         bits: out.bits,
-        status: 0x1f,
+        status: HELD_STATUS,
+    }
+}
+
+// The same of a discrete output.
+pub fn held_d(out: Discrete) -> Discrete
+    ensures { λ r. ⌜ r ≡ heldOutD out ⌝ }
+{
+    Discrete {
+        value: out.value,
+        status: HELD_STATUS,
     }
 }
 
@@ -62,17 +80,44 @@ pub fn fresh_operator() -> Pair
 {
     Pair {
         bits: 0,
-        status: 0x4c,
+        status: FRESH_STATUS,
     }
+}
+
+pub fn fresh_operator_d() -> Discrete
+    ensures { λ r. ⌜ r ≡ freshOperatorD ⌝ }
+{
+    Discrete {
+        value: 0,
+        status: FRESH_STATUS,
+    }
+}
+
+// Whether a write of the target changes it to Man from another.
+fn enters_man(old: u32, new: u32) -> bool
+    ensures { λ r. ⌜ r ≡ enteredMan old new ⌝ }
+{
+    (new == MAN) & (old != MAN)
 }
 
 // The operator's pair after a write of the target: on entering Man it is the pair last given.
 pub fn operator_after(old: u32, new: u32, given: Pair, operator: Pair) -> Pair
     ensures { λ r. ⌜ r ≡ operatorAfter old new given operator ⌝ }
 {
-    let entered = (new == MAN) & (old != MAN);
+    let entered = enters_man(old, new);
     if entered {
         return given;
+    }
+    operator
+}
+
+// The same of a discrete block.
+pub fn operator_after_d(old: u32, new: u32, out: Discrete, operator: Discrete) -> Discrete
+    ensures { λ r. ⌜ r ≡ operatorAfter old new out operator ⌝ }
+{
+    let entered = enters_man(old, new);
+    if entered {
+        return out;
     }
     operator
 }
@@ -115,6 +160,44 @@ pub fn input_status(status: u8, value: bool, calculated: bool) -> Input
         return Input::Bad(0x04);
     }
     Input::Usable
+}
+
+// ---- discrete values
+
+pub fn is_discrete(value: u8) -> bool
+    ensures { λ r. ⌜ r ≡ isDiscrete value ⌝ }
+{
+    (value == 0) | (value == 1)
+}
+
+// A value under INVERT.
+pub fn inverted(invert: u32, value: u8) -> u8
+    ensures { λ r. ⌜ r ≡ Rattle.blocks.specs.Discrete.inverted invert value ⌝ }
+{
+    let exchanges = invert == 1;
+    let zero = value == 0;
+    let one = value == 1;
+    if exchanges {
+        if zero {
+            return 1;
+        }
+        if one {
+            return 0;
+        }
+        return value;
+    }
+    value
+}
+
+// The value of FSAFE_VAL_D's code.
+pub fn discrete_value(code: u32) -> u8
+    ensures { λ r. ⌜ r ≡ discreteValue code ⌝ }
+{
+    let one = code == 1;
+    if one {
+        return 1;
+    }
+    0
 }
 
 // ---- setpoint telegrams and fail-safe
