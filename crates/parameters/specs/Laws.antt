@@ -19,27 +19,38 @@ use Rattle.wire.specs.declared.Refusal.the-variants.{ReadOnly, Locked, WordsNot
 use Rattle.blocks.specs.Common.{outOfService, man, auto, rcas}
 use Rattle.parameters.specs.declared.Words.{Words}
 use Rattle.parameters.specs.declared.Allowed.{Allowed}
-use Rattle.parameters.specs.declared.Allowed.the-variants.{Nothing, Lock, Mode, UpTo, Ends, Within, Finite, AtLeastZero, FiniteOr, Output, Total}
+use Rattle.parameters.specs.declared.Allowed.the-variants.{Nothing, Lock, Mode, UpTo, Ends, Within, Finite, AtLeastZero, FiniteOr}
+use Rattle.parameters.specs.declared.Allowed.the-variants.{Output, OutputD, Total}
 use Rattle.parameters.specs.declared.Entry.{Entry}
 use Rattle.parameters.specs.declared.Entry.the-variants.{NoBlock, NoParameter, Parameter}
 use Rattle.parameters.specs.declared.Standing.{Standing}
-use Rattle.parameters.specs.Table.{Row, words, physical, ain, tot, ao, entryIn, entryOf}
+use Rattle.parameters.specs.Table.{Row, words, physical, ain, tot, ao, di, dout, entryIn, entryOf}
 use Rattle.parameters.specs.Words.{allowsOf}
 use Rattle.parameters.specs.Refused.{readOnly, output, targetIn, lacksTable, ground, groundBy}
 
 -- ---- blocks and rows
 
--- a block is one of the four, or there is none
-pub by-block : (P : ℕ → Type 0) → P 0 → P 1 → P 2 → P 3 → ((block : ℕ) → 3 < block → P block) → (block : ℕ) → P block
-by-block P physical ain tot ao none zero = physical
-by-block P physical ain tot ao none (suc zero) = ain
-by-block P physical ain tot ao none (suc (suc zero)) = tot
-by-block P physical ain tot ao none (suc (suc (suc zero))) = ao
-by-block P physical ain tot ao none (suc (suc (suc (suc n)))) = none (suc (suc (suc (suc n)))) (omega arith)
+-- a block is one of the six, or there is none
+pub by-block : (P : ℕ → Type 0) → P 0 → P 1 → P 2 → P 3 → P 4 → P 5 → ((block : ℕ) → 5 < block → P block) → (block : ℕ) → P block
+by-block P physical ain tot ao di dout none zero = physical
+by-block P physical ain tot ao di dout none (suc zero) = ain
+by-block P physical ain tot ao di dout none (suc (suc zero)) = tot
+by-block P physical ain tot ao di dout none (suc (suc (suc zero))) = ao
+by-block P physical ain tot ao di dout none (suc (suc (suc (suc zero)))) = di
+by-block P physical ain tot ao di dout none (suc (suc (suc (suc (suc zero))))) = dout
+by-block P physical ain tot ao di dout none (suc (suc (suc (suc (suc (suc n)))))) = none (suc (suc (suc (suc (suc (suc n)))))) (omega arith)
 
-pub no-block : (block number : ℕ) → 3 < block → entryOf block number ≡ NoBlock
+pub no-block : (block number : ℕ) → 5 < block → entryOf block number ≡ NoBlock
 unfolding entryOf
-no-block block number h = rw (ne-eqb block 0 (omega arith), ne-eqb block 1 (omega arith), ne-eqb block 2 (omega arith), ne-eqb block 3 (omega arith))
+no-block block number h =
+    rw (
+      ne-eqb block 0 (omega arith),
+      ne-eqb block 1 (omega arith),
+      ne-eqb block 2 (omega arith),
+      ne-eqb block 3 (omega arith),
+      ne-eqb block 4 (omega arith),
+      ne-eqb block 5 (omega arith),
+    )
 
 -- proofs for the rows of a table, one after the other
 infixr 20 _also_
@@ -84,16 +95,18 @@ module _ (chosen : ℕ → Entry → Bool) (P : ℕ → ℕ → Entry → Type 0
 
     -- P of every block and number that is chosen
     pub by-rows : ((block number : ℕ) → T (chosen number NoBlock) → P block number NoBlock)
-        → Rows 0 physical → Rows 1 ain → Rows 2 tot → Rows 3 ao
+        → Rows 0 physical → Rows 1 ain → Rows 2 tot → Rows 3 ao → Rows 4 di → Rows 5 dout
         → (block number : ℕ) → T (chosen number (entryOf block number)) → P block number (entryOf block number)
     unfolding entryOf
-    by-rows none p a t o block number =
+    by-rows none p a t o di' dout' block number =
         by-block
         (λ (b : ℕ). T (chosen number (entryOf b number)) → P b number (entryOf b number))
         (in-rows 0 physical p number)
         (in-rows 1 ain a number)
         (in-rows 2 tot t number)
         (in-rows 3 ao o number)
+        (in-rows 4 di di' number)
+        (in-rows 5 dout dout' number)
         (λ b h. subst (λ (e : Entry). T (chosen number e) → P b number e) (sym (no-block b number h)) (none b number))
         block
 
@@ -143,6 +156,7 @@ shown Finite w = words (bitsOf (floatOf (w .first))) 0
 shown AtLeastZero w = words (bitsOf (floatOf (w .first))) 0
 shown (FiniteOr negative) w = words (bitsOf (floatOf (w .first))) 0
 shown Output w = w
+shown OutputD w = w
 shown (Total low high) w = w
 
 abbrev pub shownBy : Entry → Words → Words
@@ -183,4 +197,5 @@ module _ (w : Words) (first : w .first < 2 ^ 32) (second : w .second < 2 ^ 32) w
       (and-i a (eqb (w .second) 0) (and-l a b (and-l (a && b) (eqb (w .second) 0) t)) (and-r (a && b) (eqb (w .second) 0) t))
   shown-back (FiniteOr negative) t = floated (finiteOr negative (floatOf (w .first))) (finiteOr-number negative (floatOf (w .first))) t
   shown-back Output t = refl
+  shown-back OutputD t = refl
   shown-back (Total low high) t = refl

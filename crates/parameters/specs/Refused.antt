@@ -9,7 +9,8 @@ use Rattle.blocks.specs.Common.{man}
 use Rattle.parameters.specs.declared.Class.{Class}
 use Rattle.parameters.specs.declared.Class.the-variants.{S, N, D, R}
 use Rattle.parameters.specs.declared.Allowed.{Allowed}
-use Rattle.parameters.specs.declared.Allowed.the-variants.{Nothing, Lock, Mode, UpTo, Ends, Within, Finite, AtLeastZero, FiniteOr, Output, Total}
+use Rattle.parameters.specs.declared.Allowed.the-variants.{Nothing, Lock, Mode, UpTo, Ends, Within, Finite, AtLeastZero, FiniteOr}
+use Rattle.parameters.specs.declared.Allowed.the-variants.{Output, OutputD, Total}
 use Rattle.parameters.specs.declared.Entry.{Entry}
 use Rattle.parameters.specs.declared.Entry.the-variants.{NoBlock, NoParameter, Parameter}
 use Rattle.parameters.specs.declared.Standing.{Standing}
@@ -23,7 +24,7 @@ readOnly N = false
 readOnly D = false
 readOnly R = true
 
--- F8: OUT and TOTAL, the parameters of a value with a status
+-- F8, Q3.4: OUT, TOTAL and OUT_D, the parameters of a value with a status
 abbrev pub output : Allowed → Bool
 output Nothing = false
 output Lock = false
@@ -35,6 +36,7 @@ output Finite = false
 output AtLeastZero = false
 output (FiniteOr negative) = false
 output Output = true
+output OutputD = true
 output (Total low high) = true
 
 -- R10: stored are static and kept parameters, TOTAL left out
@@ -46,9 +48,13 @@ storedEntry (Parameter N allowed) = not (output allowed)
 storedEntry (Parameter D allowed) = false
 storedEntry (Parameter R allowed) = false
 
--- the target of a block; asked of AIN, TOT and AO alone
+-- the target of a block; asked of blocks 1 to 5 alone
 unfoldable pub targetIn : Standing → ℕ → ℕ
-targetIn s block = cond (eqb block 1) (s .ain) (cond (eqb block 2) (s .tot) (s .ao))
+targetIn s block =
+    cond (eqb block 1) (s .ain)
+    (cond (eqb block 2) (s .tot)
+    (cond (eqb block 3) (s .ao)
+    (cond (eqb block 4) (s .di) (s .dout))))
 
 -- Q1.10: LIN_TYPE 1 is written and no table is loaded
 abbrev pub lacksTable : Standing → ℕ → ℕ → ℕ → Bool

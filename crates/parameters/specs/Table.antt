@@ -1,4 +1,5 @@
--- The parameters as a table, document 01, Parameters: number, storage class, allowed words, default words, a line each. Assumes nothing.
+-- The parameters as a table, document 01, Parameters, and document 02, request 3: number, storage class, allowed words, default words, a line each.
+-- Assumes nothing.
 use Prim.Native.Nat.{ℕ}
 use mathlib.Core.Bool.{Bool, true, false, cond}
 use mathlib.Core.List.{List, [], _∷_}
@@ -8,7 +9,8 @@ use lib.Ieee.{Float, binary32, ofInt}
 use Rattle.parameters.specs.declared.Class.{Class}
 use Rattle.parameters.specs.declared.Class.the-variants.{S, N, D, R}
 use Rattle.parameters.specs.declared.Allowed.{Allowed}
-use Rattle.parameters.specs.declared.Allowed.the-variants.{Nothing, Lock, Mode, UpTo, Ends, Within, Finite, AtLeastZero, FiniteOr, Output, Total}
+use Rattle.parameters.specs.declared.Allowed.the-variants.{Nothing, Lock, Mode, UpTo, Ends, Within, Finite, AtLeastZero, FiniteOr}
+use Rattle.parameters.specs.declared.Allowed.the-variants.{Output, OutputD, Total}
 use Rattle.parameters.specs.declared.Words.{Words}
 use Rattle.parameters.specs.declared.Entry.{Entry}
 use Rattle.parameters.specs.declared.Entry.the-variants.{NoBlock, NoParameter, Parameter}
@@ -90,21 +92,49 @@ ao =
     ∷ row 38 S Ends 0 0x42c8_0000
     ∷ []
 
+-- Q3.2a, Q3.3: what DI and DO have alike, and what more a block has: OUT_D (10), INVERT (15), type and value of the fail-safe (20, 21); all at first 0,
+-- the target Auto
+unfoldable pub discrete : Bool → List Row → List Row
+discrete withRcas more =
+    row 1 R Nothing 0 0
+    ∷ row 5 S (Mode withRcas) 0x08 0
+    ∷ row 6 R Nothing 0x80 0
+    ∷ row 10 D OutputD 0 0x1f
+    ∷ row 15 S (UpTo 1) 0 0
+    ∷ row 20 S (UpTo 2) 0 0
+    ∷ row 21 S (UpTo 1) 0 0
+    ∷ more
+
+unfoldable pub di : List Row
+di = discrete false []
+
+-- Q3.2b: DO's target may be RCas, and it has the time of the fail-safe in ticks (22)
+unfoldable pub dout : List Row
+dout = discrete true (row 22 S (UpTo 65535) 0 0 ∷ [])
+
 -- the row of a number, as what a block and a number lead to
 unfoldable pub entryIn : List Row → ℕ → Entry
 entryIn [] number = NoParameter
 entryIn (r ∷ rows) number = cond (eqb number (r .number)) (Parameter (r .class) (r .allowed)) (entryIn rows number)
 
--- P1: a block's rows, by its number
+-- P1, Q3.2a: a block's rows, by its number
 unfoldable pub rowsOf : ℕ → List Row
-rowsOf block = cond (eqb block 0) physical (cond (eqb block 1) ain (cond (eqb block 2) tot (cond (eqb block 3) ao [])))
+rowsOf block =
+    cond (eqb block 0) physical
+    (cond (eqb block 1) ain
+    (cond (eqb block 2) tot
+    (cond (eqb block 3) ao
+    (cond (eqb block 4) di
+    (cond (eqb block 5) dout [])))))
 
 unfoldable pub entryOf : ℕ → ℕ → Entry
 entryOf block number =
     cond (eqb block 0) (entryIn physical number)
     (cond (eqb block 1) (entryIn ain number)
     (cond (eqb block 2) (entryIn tot number)
-    (cond (eqb block 3) (entryIn ao number) NoBlock)))
+    (cond (eqb block 3) (entryIn ao number)
+    (cond (eqb block 4) (entryIn di number)
+    (cond (eqb block 5) (entryIn dout number) NoBlock)))))
 
 -- P4: a parameter's default words
 unfoldable pub defaultIn : List Row → ℕ → Words

@@ -1,4 +1,4 @@
--- Which words a parameter takes, document 01, Parameters. Assumes nothing.
+-- Which words a parameter takes, document 01, Parameters, and document 02, request 3. Assumes nothing.
 use Prim.Native.Nat.{ℕ}
 use mathlib.Core.Bool.{Bool, false, _&&_, _||_}
 use lib.Dec.{eqb, leb}
@@ -9,7 +9,8 @@ use Rattle.numbers.specs.Floats.{floatOf, finiteOr, within}
 use Rattle.scaling.specs.Scaling.{allowedScale}
 use Rattle.blocks.specs.Common.{outOfService, man, auto, rcas}
 use Rattle.parameters.specs.declared.Allowed.{Allowed}
-use Rattle.parameters.specs.declared.Allowed.the-variants.{Nothing, Lock, Mode, UpTo, Ends, Within, Finite, AtLeastZero, FiniteOr, Output, Total}
+use Rattle.parameters.specs.declared.Allowed.the-variants.{Nothing, Lock, Mode, UpTo, Ends, Within, Finite, AtLeastZero, FiniteOr}
+use Rattle.parameters.specs.declared.Allowed.the-variants.{Output, OutputD, Total}
 
 -- P7: where one word is the value, the other is 0
 abbrev one : Bool → ℕ → Bool
@@ -32,4 +33,6 @@ allowsOf Finite a b = one (finite (floatOf a)) b
 allowsOf AtLeastZero a b = one (finite (floatOf a) && le (ofInt binary32 (pos 0)) (floatOf a)) b
 allowsOf (FiniteOr negative) a b = one (finiteOr negative (floatOf a)) b
 allowsOf Output a b = finite (floatOf a) && status b
+-- Q3.4: a discrete value is 0 or 1
+allowsOf OutputD a b = leb a 1 && status b
 allowsOf (Total low high) a b = within low high (floatOf a) && status b

@@ -1,7 +1,8 @@
 // The parameters (document 01, Parameters): block and number decide storage class and allowed words, and with what
-// stands they decide whether a write is accepted (Refused calls).
+// stands they decide whether a write is accepted (Refused calls). DI and DO are those of document 02, request 3.
 ghost use mathlib.Core.Path.{_≡_};
-ghost use Rattle.parameters.specs.Table.{entryOf, entryIn, physical, ain, tot, ao, isStatic};
+ghost use mathlib.Core.List.{[]};
+ghost use Rattle.parameters.specs.Table.{entryOf, entryIn, physical, ain, tot, ao, discrete, dout, isStatic};
 ghost use Rattle.parameters.specs.Words.{allowsOf};
 ghost use Rattle.parameters.specs.Refused.{readOnly, output, targetIn, lacksTable, ground};
 use numbers::floats::float_of;
@@ -41,6 +42,8 @@ pub enum Allowed {
     FiniteOr(bool),
     // A finite value, and a status in the second word.
     Output,
+    // 0 or 1, and a status in the second word.
+    OutputD,
     // A value from the first to the second, and a status in the second word.
     Total(f32, f32),
 }
@@ -65,6 +68,8 @@ pub struct Standing {
     pub ain: u32,
     pub tot: u32,
     pub ao: u32,
+    pub di: u32,
+    pub dout: u32,
     pub table: bool,
 }
 
@@ -135,6 +140,31 @@ fn ao_entry(parameter: u8) -> Entry
     }
 }
 
+// What DI and DO have alike; RCas too where the flag is set.
+fn discrete_entry(parameter: u8, rcas: bool) -> Entry
+    ensures { λ r. ⌜ r ≡ entryIn (discrete rcas []) parameter ⌝ }
+{
+    match parameter {
+        1 => Entry::Parameter(Class::R, Allowed::Nothing),
+        5 => Entry::Parameter(Class::S, Allowed::Mode(rcas)),
+        6 => Entry::Parameter(Class::R, Allowed::Nothing),
+        10 => Entry::Parameter(Class::D, Allowed::OutputD),
+        15 => Entry::Parameter(Class::S, Allowed::UpTo(1)),
+        20 => Entry::Parameter(Class::S, Allowed::UpTo(2)),
+        21 => Entry::Parameter(Class::S, Allowed::UpTo(1)),
+        _ => Entry::NoParameter,
+    }
+}
+
+fn dout_entry(parameter: u8) -> Entry
+    ensures { λ r. ⌜ r ≡ entryIn dout parameter ⌝ }
+{
+    match parameter {
+        22 => Entry::Parameter(Class::S, Allowed::UpTo(65535)),
+        _ => discrete_entry(parameter, true),
+    }
+}
+
 pub fn entry_of(block: u8, parameter: u8) -> Entry
     ensures { λ r. ⌜ r ≡ entryOf block parameter ⌝ }
 {
@@ -143,6 +173,8 @@ pub fn entry_of(block: u8, parameter: u8) -> Entry
         1 => ain_entry(parameter),
         2 => tot_entry(parameter),
         3 => ao_entry(parameter),
+        4 => discrete_entry(parameter, false),
+        5 => dout_entry(parameter),
         _ => Entry::NoBlock,
     }
 }
@@ -191,6 +223,7 @@ pub fn allows(allowed: Allowed, a: u32, b: u32) -> bool
         Allowed::AtLeastZero => is_finite(x) & (x >= 0.0) & one,
         Allowed::FiniteOr(negative) => is_finite_or(x, negative) & one,
         Allowed::Output => is_finite(x) & status,
+        Allowed::OutputD => (a <= 1) & status,
         Allowed::Total(low, high) => is_within(x, low, high) & status,
     }
 }
@@ -211,6 +244,7 @@ fn is_output(allowed: Allowed) -> bool
 {
     match allowed {
         Allowed::Output => true,
+        Allowed::OutputD => true,
         Allowed::Total(_, _) => true,
         Allowed::Nothing => false,
         Allowed::Lock => false,
@@ -229,13 +263,21 @@ fn target_in(s: Standing, block: u8) -> u32
 {
     let ain = block == 1;
     let tot = block == 2;
+    let ao = block == 3;
+    let di = block == 4;
     if ain {
         return s.ain;
     }
     if tot {
         return s.tot;
     }
-    s.ao
+    if ao {
+        return s.ao;
+    }
+    if di {
+        return s.di;
+    }
+    s.dout
 }
 
 // Whether the write asks for a table, and none is there.

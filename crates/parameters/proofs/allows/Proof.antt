@@ -51,7 +51,11 @@ returns-10 c = rw (c .is-finite3 .ensures, c .before .before .before .float-of .
 
 returns-11 : tie.Need-returns-11
 unfolding allowsOf ofBits ofInt
-returns-11 c = rw (c .is-within2 .ensures, c .before .before .before .before .float-of .ensures, c .before .before .allowed5 .given .1)
+returns-11 c = rw (c .enum-told7 .given .1)
+
+returns-12 : tie.Need-returns-12
+unfolding allowsOf ofBits ofInt
+returns-12 c = rw (c .is-within2 .ensures, c .before .before .before .before .float-of .ensures, c .before .before .allowed5 .given .1)
 
 pub allows-spec : {M : Type 1} → statement M
 allows-spec =
@@ -76,6 +80,7 @@ allows-spec =
     (λ c. search needs)
     (λ c κs. search needs)
     (λ c. search needs)
+    (λ c. search needs)
     (λ c κs. search needs)
     returns
     returns-2
@@ -87,4 +92,5 @@ allows-spec =
     returns-8
     returns-9
     returns-10
-    returns-11)
+    returns-11
+    returns-12)
