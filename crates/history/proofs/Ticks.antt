@@ -6,6 +6,7 @@ use mathlib.Core.Bool.{Bool, true, false, not, _&&_, _||_, cond}
 use mathlib.Core.Logic.{_⊎_, inl, inr}
 use mathlib.Core.Option.{Option, none, some}
 use lib.Dec.{T, eqb, eqb→eq}
+use borrow.Author.Tests.{eqb-true, eqb-false}
 use lib.IntN.{ℤ, pos}
 use lib.Ieee.{Float, binary32, ofInt, eq}
 use lib.Ieee.Fits.{and-l}
@@ -19,7 +20,9 @@ use Rattle.wire.specs.Status.{qualityOf}
 use Rattle.blocks.specs.declared.Kept.{Kept}
 use Rattle.blocks.specs.declared.Input.{Input}
 use Rattle.blocks.specs.declared.Input.the-variants.{Usable, Bad}
-use Rattle.blocks.specs.Common.{actualMode, inputStatus}
+use Rattle.blocks.specs.Common.{actualMode, inputStatus, asPair}
+use Rattle.blocks.specs.Discrete.{inverted, discreteValue}
+use Rattle.blocks.specs.InputBlock.{present, lastUsableOr, scaledOrOld, failSafePair}
 use Rattle.blocks.specs.Common as Common
 use Rattle.parameters.specs.declared.Allowed.the-variants.{Mode}
 use Rattle.parameters.specs.Words.{allowsOf}
@@ -28,15 +31,17 @@ use Rattle.ain.specs.declared.State.{State as AinState}
 use Rattle.ain.specs.Scaling.{scaledOf, filtered}
 use Rattle.ain.specs.Alarm.{rises, falls, alarmStands, alarmsOf, noAlarms, alarmStatus}
 use Rattle.ain.specs.Tick as Ain
+use Rattle.di.specs.declared.State.{State as DiState}
+use Rattle.di.specs.Tick as Di
 use Rattle.tot.specs.declared.Settings.{Settings as TotSettings}
 use Rattle.tot.specs.declared.State.{State as TotState}
 use Rattle.tot.specs.Total.{incrementOf, wanted, nextTotal, valueGiven, givenBits, thousandthsOf, sumOf}
 use Rattle.tot.specs.Tick as Tot
 use Rattle.history.specs.Past.{History}
 use Rattle.history.specs.Calls.{Fed, Event}
-use Rattle.history.specs.Rules.{pair, code, float, scale, table, outOfService, man, auto, rcas, modeAt, operator, oldOut, badStatus, ifUsable, scaled, calculated, ainBad, filterValue, lastUsable, analogIn, ainSensed, stands, standsWith, alarmed, lastOr, wordOr, sensedFailSafe, sensedAuto, senses, totBad, rateValue, wantedBy, addedRate, adds, totalBy, total, totStatus, totGives, given, held}
+use Rattle.history.specs.Rules.{pair, code, float, scale, table, outOfService, man, auto, rcas, modeAt, operator, oldOut, badStatus, ifUsable, Sensor, discreteIn, discrete, isBit, exchanged, diSensed, scaled, calculated, ainBad, filterValue, lastUsable, analogIn, ainSensed, stands, standsWith, alarmed, lastOr, wordOr, sensedFailSafe, sensedAuto, senses, totBad, rateValue, wantedBy, addedRate, adds, totalBy, total, totStatus, totGives, given, held}
 use Rattle.history.proofs.Loads.{measured-is}
-use Rattle.history.proofs.Ruled.{keptOf, alarmsAt, ainAt, ainIn, totAt, totIn}
+use Rattle.history.proofs.Ruled.{keptOf, byteOf, alarmsAt, ainAt, ainIn, totAt, totIn, diAt, diIn}
 
 -- ---- the modes
 
@@ -115,6 +120,37 @@ status-is status value calculated = go (eqb (qualityOf status) 3) (eqb (qualityO
     go false false true false = refl
     go false false true true = refl
 
+-- ---- an input block, over the type of its values
+
+module _ {A : Type 0} (s : Sensor A) where
+  -- a value that may be missing, by its word
+  abbrev worded : Option A → Option ℕ
+  worded none = none
+  worded (some x) = some (s .word x)
+
+  there-is : (b : Bool) (x : A) → present b (s .word x) ≡ worded (cond b (some x) none)
+  there-is true x = refl
+  there-is false x = refl
+
+  module _ (h : History Event) (old : given (s .block) h .bits ≡ oldOut (s .block) h) where
+    -- what an Auto tick that isn't usable gives
+    fail-safe-is : (comes : Option A) (bad : ℕ)
+        → asPair (failSafePair 0 (code h (s .block) (s .kind)) (s .word (s .fallback h)) (worded (lastUsable s h)) (worded comes) (given (s .block) h .bits) bad) ≡ sensedFailSafe s h comes bad
+    unfolding failSafePair sensedFailSafe
+    fail-safe-is comes bad =
+        ap (λ (bits : ℕ). chosen bits (eqb (code h (s .block) (s .kind)) 0) (eqb (code h (s .block) (s .kind)) 1) (lastUsable s h) comes) old
+        ∙ go (eqb (code h (s .block) (s .kind)) 0) (eqb (code h (s .block) (s .kind)) 1) (lastUsable s h) comes
+      where
+        chosen : ℕ → Bool → Bool → Option A → Option A → Pair
+        chosen bits a b o c = asPair (cond a (record { value = s .word (s .fallback h); status = 0x48 }) (cond b (lastUsableOr 0 (worded o)) (scaledOrOld bits bad (worded c))))
+
+        go : (a b : Bool) (o c : Option A) → chosen (oldOut (s .block) h) a b o c ≡ cond a (pair (s .word (s .fallback h)) 0x48) (cond b (lastOr s o) (pair (wordOr s (oldOut (s .block) h) c) bad))
+        go true b o c = refl
+        go false true none c = refl
+        go false true (some x) c = refl
+        go false false o none = refl
+        go false false o (some x) = refl
+
 -- ---- AIN
 
 either-way : {A : Type 0} (b : Bool) (x y : A) → cond (b || true) x y ≡ x
@@ -156,25 +192,15 @@ module _ (h : History Event) (fed : Fed) where
   auto-is m = ap (Ain.autoBy (ainAt h) tableAt (ainIn h) m (ain .bits) (ain .status)) (input-is (filterValue h))
 
   module _ (old : given 1 h .bits ≡ oldOut 1 h) where
-    fail-safe-is : (bad : ℕ) → Ain.failSafeOut (code h 1 17) (float h 1 18) (keptOf (lastUsable analogIn h)) (scaled h ain) (given 1 h) bad ≡ sensedFailSafe analogIn h (ainSensed h fed .comes) bad
-    unfolding Ain.failSafeOut sensedFailSafe ainSensed
-    fail-safe-is bad = ap (λ (bits : ℕ). byOld bits) old ∙ go (eqb (code h 1 17) 0) (eqb (code h 1 17) 1) (lastUsable analogIn h) (finite (scaled h ain))
+    ain-fail-safe : (bad : ℕ) → Ain.failSafeOut (code h 1 17) (float h 1 18) (keptOf (lastUsable analogIn h)) (scaled h ain) (given 1 h) bad ≡ sensedFailSafe analogIn h (ainSensed h fed .comes) bad
+    unfolding Ain.failSafeOut ainSensed
+    ain-fail-safe bad =
+        (λ i. asPair (failSafePair 0 (code h 1 17) (bitsOf (float h 1 18)) (kept-is (lastUsable analogIn h) i) (there-is analogIn (finite (scaled h ain)) (scaled h ain) i) (given 1 h .bits) bad))
+        ∙ fail-safe-is analogIn h old (cond (finite (scaled h ain)) (some (scaled h ain)) none) bad
       where
-        byOld : ℕ → Pair
-        byOld bits =
-            cond (eqb (code h 1 17) 0) (pair (bitsOf (float h 1 18)) 0x48)
-            (cond (eqb (code h 1 17) 1)
-            (cond (keptOf (lastUsable analogIn h) .some) (pair (bitsOf (keptOf (lastUsable analogIn h) .value)) 0x44) (pair 0 0x4c))
-            (cond (finite (scaled h ain)) (pair (bitsOf (scaled h ain)) bad) (pair bits bad)))
-
-        go : (a b : Bool) (o : Option Float) (f : Bool)
-            → cond a (pair (bitsOf (float h 1 18)) 0x48) (cond b (cond (keptOf o .some) (pair (bitsOf (keptOf o .value)) 0x44) (pair 0 0x4c)) (cond f (pair (bitsOf (scaled h ain)) bad) (pair (oldOut 1 h) bad)))
-            ≡ cond a (pair (bitsOf (float h 1 18)) 0x48) (cond b (lastOr analogIn o) (pair (wordOr analogIn (oldOut 1 h) (cond f (some (scaled h ain)) none)) bad))
-        go true b o f = refl
-        go false true none f = refl
-        go false true (some x) f = refl
-        go false false o true = refl
-        go false false o false = refl
+        kept-is : (o : Option Float) → present (keptOf o .some) (bitsOf (keptOf o .value)) ≡ worded analogIn o
+        kept-is none = refl
+        kept-is (some x) = refl
 
     -- an Auto tick in the rules' terms
     abbrev worked : ℕ → Option ℕ → AinState
@@ -201,12 +227,12 @@ module _ (h : History Event) (fed : Fed) where
     by-scaled : (m bad : ℕ) → Ain.unusableTick (ainAt h) (ainIn h) m (scaled h ain) bad ≡ worked m (some bad)
     unfolding Ain.unusableTick ainAt ainIn
     by-scaled m bad = λ i. record {
-      out = fail-safe-is bad i;
+      out = ain-fail-safe bad i;
       mode = m;
       filter = keptOf (filterValue h);
       last = keptOf (lastUsable analogIn h);
       operator = operator 1 h;
-      alarms = alarmsOf (ainAt h) (alarmsAt h) (floatOf (fail-safe-is bad i .bits));
+      alarms = alarmsOf (ainAt h) (alarmsAt h) (floatOf (ain-fail-safe bad i .bits));
     }
 
     unusable-is : (m bad : ℕ) → byBad m (some bad) ≡ worked m (some bad)
@@ -246,6 +272,71 @@ module _ (h : History Event) (fed : Fed) where
       ain-is (inl e) = ain-out e ∙ sym (rw e)
       ain-is (inr (inl e)) = ain-man e ∙ sym (rw e)
       ain-is (inr (inr e)) = ain-auto e ∙ sym (rw e)
+
+-- ---- DI
+
+-- FSAFE_VAL_D is 0 or 1, so it is its value
+pub value-is : (n : ℕ) → n ≤ 1 → discreteValue n ≡ n
+unfolding discreteValue
+value-is n small = go (eqb n 1) refl
+  where
+    other : (m : ℕ) → m ≤ 1 → (m ≡ 1 → ⊥) → 0 ≡ m
+    other m s t = omega arith
+
+    go : (b : Bool) → eqb n 1 ≡ b → cond b 1 0 ≡ n
+    go true e = sym (eqb-true n 1 e)
+    go false e = other n small (eqb-false n 1 e)
+
+module _ (h : History Event) (fed : Fed) (old : given 4 h .bits ≡ oldOut 4 h) (small : code h 4 21 ≤ 1) where
+  abbrev v : ℕ
+  v = fed .di .value
+
+  di-input : Di.inputOf v (fed .di .status) ≡ inputFrom (diSensed h fed .bad)
+  unfolding Di.inputOf diSensed
+  di-input = status-is (fed .di .status) true (isBit v)
+
+  di-fail-safe : (bad : ℕ) → Di.failSafeOut (diAt h) (byteOf (lastUsable discreteIn h)) v (discrete (given 4 h)) bad ≡ discrete (sensedFailSafe discreteIn h (diSensed h fed .comes) bad)
+  unfolding Di.failSafeOut diAt diSensed inverted
+  di-fail-safe bad = ap discrete (
+      (λ i. asPair (failSafePair 0 (code h 4 20) (value-is (code h 4 21) small i) (byte-is (lastUsable discreteIn h) i) (there-is discreteIn (isBit v) (exchanged (code h 4 15) v) i) (given 4 h .bits) bad))
+      ∙ fail-safe-is discreteIn h old (cond (isBit v) (some (exchanged (code h 4 15) v)) none) bad)
+    where
+      byte-is : (o : Option ℕ) → present (byteOf o .some) (byteOf o .value) ≡ worded discreteIn o
+      byte-is none = refl
+      byte-is (some x) = refl
+
+  -- an Auto tick in the rules' terms
+  abbrev contact : ℕ → Option ℕ → DiState
+  contact m bad = record {
+    out = discrete (sensedAuto discreteIn h (diSensed h fed) bad);
+    mode = m;
+    last = byteOf (ifUsable bad (some (diSensed h fed .value)) (lastUsable discreteIn h));
+    operator = discrete (operator 4 h);
+  }
+
+  di-auto : (m : ℕ) → Di.autoTick (diAt h) (diIn h) m v (fed .di .status) ≡ contact m (diSensed h fed .bad)
+  unfolding Di.autoTick
+  di-auto m = ap (Di.autoBy (diAt h) (diIn h) m v (fed .di .status)) di-input ∙ go (diSensed h fed .bad)
+    where
+      go : (bad : Option ℕ) → Di.autoBy (diAt h) (diIn h) m v (fed .di .status) (inputFrom bad) ≡ contact m bad
+      go none = unfold Di.autoBy Di.usableTick diSensed diAt diIn inverted in refl
+      go (some bad) = unfold Di.autoBy Di.unusableTick diIn in (λ i. record { out = di-fail-safe bad i; mode = m; last = byteOf (lastUsable discreteIn h); operator = discrete (operator 4 h) })
+
+  module _ (fault : Bool) where
+    abbrev m : ℕ
+    m = modeAt h fault 4
+
+    -- the whole tick, in its actual mode
+    pub di-is : IsMode m → Di.tickBy (diAt h) (diIn h) m v (fed .di .status) ≡ record {
+      out = discrete (cond (eqb m outOfService) (held (given 4 h)) (senses discreteIn h fault fed));
+      mode = m;
+      last = byteOf (cond (eqb m auto) (ifUsable (diSensed h fed .bad) (some (diSensed h fed .value)) (lastUsable discreteIn h)) (lastUsable discreteIn h));
+      operator = discrete (operator 4 h);
+    }
+    unfolding Di.tickBy senses
+    di-is (inl e) = rw e (unfold Di.outOfServiceTick diIn in refl)
+    di-is (inr (inl e)) = rw e (unfold Di.manTick diIn in refl)
+    di-is (inr (inr e)) = rw e (di-auto auto)
 
 -- ---- TOT
 
@@ -307,9 +398,9 @@ module _ (h : History Event) (tot : Pair) where
       two n s a b = omega arith
 
       go : (p : Bool) → eqb n 0 ≡ p → (q : Bool) → eqb n 1 ≡ q → (n ≡ 0) ⊎ ((n ≡ 1) ⊎ (n ≡ 2))
-      go true e q f = inl (borrow.Author.Tests.eqb-true n 0 e)
-      go false e true f = inr (inl (borrow.Author.Tests.eqb-true n 1 f))
-      go false e false f = inr (inr (two n s (borrow.Author.Tests.eqb-false n 0 e) (borrow.Author.Tests.eqb-false n 1 f)))
+      go true e q f = inl (eqb-true n 0 e)
+      go false e true f = inr (inl (eqb-true n 1 f))
+      go false e false f = inr (inr (two n s (eqb-false n 0 e) (eqb-false n 1 f)))
 
   module _ (set : code h 2 13 ≤ 2) where
     total-is : Tot.autoTotal (totAt h) (total h) (keptOf (rateValue h)) (tot .bits) (tot .status) ≡ totalBy h tot (total h)

@@ -538,9 +538,9 @@ analogIn = record { block = 1; kind = 17; fallback = λ h. float h 1 18; word = 
 abbrev pub isBit : ℕ → Bool
 isBit value = eqb value 0 || eqb value 1
 
--- Q3.5: what INVERT 1 makes of a discrete value
+-- Q3.5: what INVERT 1 makes of a discrete value: it exchanges 0 and 1
 abbrev pub exchanged : ℕ → ℕ → ℕ
-exchanged invert value = cond (eqb invert 1) (cond (eqb value 0) 1 0) value
+exchanged invert value = cond (eqb invert 1) (cond (eqb value 0) 1 (cond (eqb value 1) 0 value)) value
 
 -- Q3.4b, Q3.5: what a tick makes of DI's pair: INVERT stands where AIN scales; another value than 0 and 1 is Bad, 0x04, and leaves none to give
 unfoldable pub diSensed : History Event → Fed → Sensed ℕ

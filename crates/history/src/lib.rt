@@ -343,8 +343,8 @@ pub fn order_d_after(calls: &[u8], fault: bool, ain: Pair, tot: Pair, di: Discre
     ensures { λ r. ⌜ r ≡ Rules.orderD (heard (now (calls .entry))) fault ⌝ }
 {
     let replayed = replay(calls);
-    let ticked = device::tick(replayed.device, fault, ain, tot, di);
-    ticked.order_d
+    let answered = device::tick(replayed.device, fault, ain, tot, di);
+    answered.order_d
 }
 
 pub fn write_after(calls: &[u8], block: u8, parameter: u8, a: u32, b: u32) -> Answer
