@@ -207,6 +207,14 @@ refused-keeps true take state received r h = refl
 refused-keeps false take state (refused q) r h = refl
 refused-keeps false take state (accepted p) r h = let z : _≡_ {A = ℕ} 0 1 = cc in absurd (omega arith)
 
+-- Whatever holds of the state before a telegram, and after each pair taken, holds after it.
+pub telegram-holds : {S P : Type 0} (H : S → Type 0) (lacking : Bool) (take : P → S) (state : S) (received : ReceivedOf P) → H state
+    → ((pair : P) → H (take pair)) → H (telegramBy lacking take state received .state)
+unfolding telegramBy
+telegram-holds H true take state received h t = h
+telegram-holds H false take state (refused q) h t = h
+telegram-holds H false take state (accepted pair) h t = t pair
+
 -- ---- the count
 
 -- P13b: FSAFE_TIME is at most 65,535 ticks: the count that stops at 65,536 decides as the true one does.
