@@ -26,7 +26,7 @@ use Rattle.blocks.specs.declared.Input.{Input}
 use Rattle.blocks.specs.declared.Input.the-variants.{Usable, Bad}
 use Rattle.blocks.specs.Common.{good}
 use Rattle.blocks.specs.InputBlock.{present, failSafePair}
-use Rattle.blocks.specs.Laws.{fail-safe-not-good, fail-safe-holds, input-holds, good-by-input}
+use Rattle.blocks.specs.Laws.{present-holds, fail-safe-not-good, fail-safe-holds, input-holds, good-by-input}
 use Rattle.ain.specs.declared.Settings.{Settings}
 use Rattle.ain.specs.declared.Alarms.{Alarms}
 use Rattle.ain.specs.declared.State.{State}
@@ -161,11 +161,6 @@ calculated-fits s table old bits = go (eq (s .«pv_ftime») (ofInt binary32 (pos
     go true = scaled-fits s table bits
     go false = add-fits binary32 _ _
 
--- a value that may be missing, where it is finite if it is there
-present-finite : (b : Bool) (x : Float) → (b ≡ true → Finite x) → (bits : ℕ) → present b (bitsOf x) ≡ some bits → finite (floatOf bits) ≡ true
-present-finite true x h bits e = let z : bitsOf x ≡ bits = cc in rw z at (written x (h refl))
-present-finite false x h bits e = let z : _≡_ {A = ℕ} 0 1 = cc in absurd (omega arith)
-
 module _ (s : Settings) (table : Table) (st : State) (h : FiniteStore s st) (mode bits status : ℕ) where
   finiteOut : State → Type 0
   finiteOut next = finite (floatOf (next .out .bits)) ≡ true
@@ -173,9 +168,12 @@ module _ (s : Settings) (table : Table) (st : State) (h : FiniteStore s st) (mod
   held-finite : (bad : ℕ) → finiteOut (autoBy s table st mode bits status (Bad bad))
   unfolding finiteOut autoBy unusableTick failSafeOut ofBits
   held-finite bad =
-      fail-safe-holds 0 (s .«fsafe_type») (bitsOf (s .«fsafe_value»)) _ _ (st .out .bits) bad (λ (b : ℕ). finite (floatOf b) ≡ true) refl
-      (written (s .«fsafe_value») (h .value)) (present-finite (st .last .some) (st .last .value) (h .last))
-      (present-finite (finite (scaledValue s table bits)) (scaledValue s table bits) (λ e. (scaled-fits s table bits, e))) (h .out)
+      fail-safe-holds 0 (s .«fsafe_type») (bitsOf (s .«fsafe_value»)) _ _ (st .out .bits) bad finiteBits refl (written (s .«fsafe_value») (h .value))
+      (present-holds finiteBits (st .last .some) _ (λ e. written (st .last .value) (h .last e)))
+      (present-holds finiteBits (finite (scaledValue s table bits)) _ (λ e. written (scaledValue s table bits) (scaled-fits s table bits, e))) (h .out)
+    where
+      finiteBits : ℕ → Type 0
+      finiteBits b = finite (floatOf b) ≡ true
 
   usable-finite : finite (calculated s table (st .filter) bits) ≡ true → finiteOut (autoBy s table st mode bits status Usable)
   unfolding finiteOut autoBy usableTick

@@ -1,7 +1,7 @@
 -- Laws that are the same for several blocks, over any kind of value. AIN and DI: when a tick is Good, and what holds of every value given. AO and DO: what a
 -- status byte says of a telegram, refused telegrams, the count that stops, the decision, and what holds of every value given. Discrete values: that INVERT
 -- leads to one. Assumes nothing.
-use mathlib.Core.Path.{_≡_, refl, sym, ap, _∙_}
+use mathlib.Core.Path.{_≡_, refl, sym, ap, _∙_, subst}
 use mathlib.Core.Bool.{Bool, true, false, cond, not, _&&_, _||_, true≢false}
 use mathlib.Core.Option.{Option, none, some}
 use Prim.Native.Nat.{ℕ, _+_, _≤_, min}
@@ -18,14 +18,18 @@ use Rattle.blocks.specs.declared.Input.{Input}
 use Rattle.blocks.specs.declared.Input.the-variants.{Usable as UsableInput, Bad}
 use Rattle.blocks.specs.Common.{PairOf, outOfService, man, inMode, inputStatus, good}
 use Rattle.blocks.specs.Discrete.{isDiscrete, exchanged, inverted, discreteValue}
-use Rattle.blocks.specs.InputBlock.{lastUsableOr, scaledOrOld, failSafePair}
+use Rattle.blocks.specs.InputBlock.{present, lastUsableOr, scaledOrOld, failSafePair}
 use Rattle.blocks.specs.FailSafe.{classOf, classNumber, usable, initiates, InputOf, afterTelegram, silenceAfter, failSafeActs, failSafeCase, caseOf}
 use Rattle.blocks.specs.FailSafe.{Case, following, fallback, held, nothingHeld, safety, rest, GivenOf, positioned, scaledOr, leadsTo, byMode}
 use Rattle.blocks.specs.Output.{ReceivedOf, accepted, refused, refusedWith, receivedBy, telegramBy}
 
 -- ---- discrete values
 
-pub inverted-discrete : (invert value : ℕ) → isDiscrete value ≡ true → isDiscrete (inverted invert value) ≡ true
+-- 0 or 1
+abbrev pub Discrete : ℕ → Type 0
+Discrete value = isDiscrete value ≡ true
+
+pub inverted-discrete : (invert value : ℕ) → Discrete value → Discrete (inverted invert value)
 unfolding inverted
 inverted-discrete invert value h = go (eqb invert 1) (eqb value 0) (eqb value 1)
   where
@@ -47,7 +51,7 @@ inverted-twice invert value = go (eqb invert 1) (eqb value 0) refl (eqb value 1)
     go true false eb false ec = rw (eb, ec)
     go false b eb c ec = refl
 
-pub value-discrete : (code : ℕ) → isDiscrete (discreteValue code) ≡ true
+pub value-discrete : (code : ℕ) → Discrete (discreteValue code)
 unfolding discreteValue
 value-discrete code = go (eqb code 1)
   where
@@ -66,6 +70,11 @@ mode-holds P mode x y z p q r = go (eqb mode outOfService) (eqb mode man)
     go true b = p
     go false true = q
     go false false = r
+
+-- Whatever holds of a value if it is there holds of it as one that may be missing.
+pub present-holds : {A : Type 0} (P : A → Type 0) (there : Bool) (x : A) → (there ≡ true → P x) → (v : A) → present there x ≡ some v → P v
+present-holds P true x h v e = let z : x ≡ v = cc in subst P z (h refl)
+present-holds P false x h v e = let z : _≡_ {A = ℕ} 0 1 = cc in absurd (omega arith)
 
 module _ {A : Type 0} (zero : A) (kind : ℕ) (fsafeValue : A) (last scaled : Option A) (old : A) (bad : ℕ) where
   -- A8: what fail-safe gives is not Good, as no Bad status is.
@@ -197,6 +206,14 @@ unfolding telegramBy
 refused-keeps true take state received r h = refl
 refused-keeps false take state (refused q) r h = refl
 refused-keeps false take state (accepted p) r h = let z : _≡_ {A = ℕ} 0 1 = cc in absurd (omega arith)
+
+-- Whatever holds of the state before a telegram, and after each pair taken, holds after it.
+pub telegram-holds : {S P : Type 0} (H : S → Type 0) (lacking : Bool) (take : P → S) (state : S) (received : ReceivedOf P) → H state
+    → ((pair : P) → H (take pair)) → H (telegramBy lacking take state received .state)
+unfolding telegramBy
+telegram-holds H true take state received h t = h
+telegram-holds H false take state (refused q) h t = h
+telegram-holds H false take state (accepted pair) h t = t pair
 
 -- ---- the count
 
