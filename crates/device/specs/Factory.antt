@@ -10,6 +10,10 @@ use Rattle.tot.specs.declared.Settings.{Settings as TotSettings}
 use Rattle.tot.specs.State.{freshState as freshTot}
 use Rattle.ao.specs.declared.Settings.{Settings as AoSettings}
 use Rattle.ao.specs.State.{freshState as freshAo}
+use Rattle.di.specs.declared.Settings.{Settings as DiSettings}
+use Rattle.di.specs.State.{freshState as freshDi}
+use Rattle.dout.specs.declared.Settings.{Settings as DoutSettings}
+use Rattle.dout.specs.State.{freshState as freshDout}
 use Rattle.parameters.specs.declared.Words.{Words}
 use Rattle.parameters.specs.Table.{defaultOf}
 use Rattle.device.specs.declared.Device.{Device}
@@ -65,11 +69,25 @@ aoBy v = record {
   «increase_close» = codeBy v 3 36;
 }
 
--- C1, P4: the defaults, fresh blocks, no static write yet and no table
+unfoldable pub diBy : Valuation → DiSettings
+diBy v = record { target = codeBy v 4 5; invert = codeBy v 4 15; «fsafe_type» = codeBy v 4 20; «fsafe_val_d» = codeBy v 4 21 }
+
+unfoldable pub doutBy : Valuation → DoutSettings
+doutBy v = record {
+  target = codeBy v 5 5;
+  invert = codeBy v 5 15;
+  «fsafe_type» = codeBy v 5 20;
+  «fsafe_val_d» = codeBy v 5 21;
+  «fsafe_time» = codeBy v 5 22;
+}
+
+-- C1, P4, Q3.3: the defaults, fresh blocks, no static write yet and no table
 unfoldable pub factoryDevice : Device
 factoryDevice = record {
   «write_locking» = codeBy defaultOf 0 18;
   ain = record { settings = ainBy defaultOf; state = freshAin; «st_rev» = 0; table = noTable };
   tot = record { settings = totBy defaultOf; state = freshTot; «st_rev» = 0 };
   ao = record { settings = aoBy defaultOf; state = freshAo; «st_rev» = 0 };
+  di = record { settings = diBy defaultOf; state = freshDi; «st_rev» = 0 };
+  dout = record { settings = doutBy defaultOf; state = freshDout; «st_rev» = 0 };
 }

@@ -10,10 +10,11 @@ use lib.Ieee.{Float}
 use lib.Ieee.Fits.{and-l, and-r, and-i}
 use borrow.Author.Tests.{eqb-true, eq-eqb, ne-eqb}
 use Rattle.wire.specs.declared.Pair.{Pair}
+use Rattle.wire.specs.declared.Discrete.{Discrete}
 use Rattle.wire.specs.declared.Answer.{Answer}
 use Rattle.wire.specs.declared.Answer.the-variants.{Accepted, Refused}
 use Rattle.wire.specs.declared.Refusal.{Refusal}
-use Rattle.wire.specs.Bytes.{pairOf}
+use Rattle.wire.specs.Bytes.{pairOf, discreteOf}
 use Rattle.scaling.specs.declared.Scale.{Scale}
 use Rattle.blocks.specs.Laws.{refused-keeps}
 use Rattle.ain.specs.declared.State.{State as AinState}
@@ -21,25 +22,33 @@ use Rattle.tot.specs.declared.State.{State as TotState}
 use Rattle.ao.specs.declared.State.{State as AoState}
 use Rattle.ao.specs.State.{operatedBy}
 use Rattle.ao.specs.Telegram.{takenOn, received, telegramOf as aoTelegram}
+use Rattle.di.specs.declared.State.{State as DiState}
+use Rattle.dout.specs.declared.State.{State as DoutState}
+use Rattle.dout.specs.State.{operatedBy as operatedDout}
+use Rattle.dout.specs.Telegram.{telegramOf as doutTelegram}
+use Rattle.dout.specs.Telegram as Dout
 use Rattle.parameters.specs.declared.Words.{Words}
 use Rattle.parameters.specs.declared.Class.the-variants.{N}
 use Rattle.parameters.specs.declared.Allowed.the-variants.{Lock}
 use Rattle.parameters.specs.declared.Entry.{Entry}
 use Rattle.parameters.specs.declared.Entry.the-variants.{NoBlock, NoParameter, Parameter}
-use Rattle.parameters.specs.Table.{Row, words, physical, ain, tot, ao, entryIn, entryOf, isStatic}
+use Rattle.parameters.specs.Table.{Row, words, physical, ain, tot, ao, di, dout, discrete, entryIn, entryOf, isStatic}
 use Rattle.parameters.specs.Words.{allowsOf}
 use Rattle.parameters.specs.Refused.{readOnly, storedEntry, ground}
 use Rattle.parameters.specs.Laws.{by-block, no-block, by-rows, _also_, takes, accepted-takes, shownBy, shown-back}
 use Rattle.device.specs.declared.AinBlock.{AinBlock}
 use Rattle.device.specs.declared.TotBlock.{TotBlock}
 use Rattle.device.specs.declared.AoBlock.{AoBlock}
+use Rattle.device.specs.declared.DiBlock.{DiBlock}
+use Rattle.device.specs.declared.DoutBlock.{DoutBlock}
 use Rattle.device.specs.declared.Device.{Device}
 use Rattle.device.specs.declared.Answered.{Answered}
 use Rattle.device.specs.declared.Reading.{Reading}
 use Rattle.device.specs.declared.Reading.the-variants.{Read}
-use Rattle.device.specs.Stored.{revAfter, ainSettings, totSettings, aoSettings, ainWritten, totWritten, aoWritten, storedIn}
-use Rattle.device.specs.Read.{code, float, ends, ainWords, totWords, aoWords, wordsOf, readBy, readOf}
-use Rattle.device.specs.Calls.{standingOf, writeBy, writeOf, tickOf, telegramOf, warmStarted}
+use Rattle.device.specs.Stored.{revAfter, ainSettings, totSettings, aoSettings, diSettings, doutSettings}
+use Rattle.device.specs.Stored.{ainWritten, totWritten, aoWritten, diWritten, doutWritten, storedIn}
+use Rattle.device.specs.Read.{code, float, ends, ainWords, totWords, aoWords, discreteWords, diWords, doutWords, wordsOf, readBy, readOf}
+use Rattle.device.specs.Calls.{standingOf, writeBy, writeOf, tickOf, aoHeard, doutHeard, telegramOf, warmStarted}
 
 -- what an accepted write moves of what reads give: the parameter written if it is stored, and its block's ST_REV if it is static
 abbrev pub moves : ℕ → ℕ → ℕ → ℕ → Bool
@@ -63,58 +72,77 @@ pub record WriteLaw (d : Device) (block number a b : ℕ) (r : Answered) : Type 
 -- ---- what only ticks and starts move
 
 -- the device with other block states
-abbrev withStates : Device → AinState → TotState → AoState → Device
-withStates d x y z = record {
+abbrev withStates : Device → AinState → TotState → AoState → DiState → DoutState → Device
+withStates d x y z u v = record {
   «write_locking» = d .«write_locking»;
   ain = record { settings = d .ain .settings; state = x; «st_rev» = d .ain .«st_rev»; table = d .ain .table };
   tot = record { settings = d .tot .settings; state = y; «st_rev» = d .tot .«st_rev» };
   ao = record { settings = d .ao .settings; state = z; «st_rev» = d .ao .«st_rev» };
+  di = record { settings = d .di .settings; state = u; «st_rev» = d .di .«st_rev» };
+  dout = record { settings = d .dout .settings; state = v; «st_rev» = d .dout .«st_rev» };
 }
 
 -- stored parameters and ST_REV
 abbrev pub lasting : ℕ → Entry → Bool
 lasting number e = storedEntry e || eqb number 1
 
-states-still : (d : Device) (x : AinState) (y : TotState) (z : AoState) (block number : ℕ) → T (lasting number (entryOf block number))
-    → readOf (withStates d x y z) block number ≡ readOf d block number
-unfolding readOf wordsOf ainWords totWords aoWords physical ain tot ao
-states-still d x y z =
+states-still : (d : Device) (x : AinState) (y : TotState) (z : AoState) (u : DiState) (v : DoutState) (block number : ℕ)
+    → T (lasting number (entryOf block number)) → readOf (withStates d x y z u v) block number ≡ readOf d block number
+unfolding readOf wordsOf ainWords totWords aoWords diWords doutWords discreteWords physical ain tot ao di dout discrete
+states-still d x y z u v =
     by-rows
     lasting
-    (λ block number e. readBy (wordsOf (withStates d x y z) block number) e ≡ readBy (wordsOf d block number) e)
+    (λ block number e. readBy (wordsOf (withStates d x y z u v) block number) e ≡ readBy (wordsOf d block number) e)
     (λ block number t. refl)
     (λ block number t. refl)
     (refl also tt)
     (refl also refl also refl also refl also refl also refl also refl also refl also refl also refl also refl also refl also refl also tt)
     (refl also refl also refl also refl also refl also refl also tt)
     (refl also refl also refl also refl also refl also refl also refl also refl also tt)
+    (refl also refl also refl also refl also refl also tt)
+    (refl also refl also refl also refl also refl also refl also tt)
 
 -- R17: a tick, a telegram and a warm start leave stored parameters and ST_REV.
-pub tick-keeps : (d : Device) (fault : Bool) (x y : Pair) (block number : ℕ) → T (lasting number (entryOf block number))
-    → readOf (tickOf d fault x y .device) block number ≡ readOf d block number
+pub tick-keeps : (d : Device) (fault : Bool) (x y : Pair) (z : Discrete) (block number : ℕ) → T (lasting number (entryOf block number))
+    → readOf (tickOf d fault x y z .device) block number ≡ readOf d block number
 unfolding tickOf
-tick-keeps d fault x y =
-    states-still d (tickOf d fault x y .device .ain .state) (tickOf d fault x y .device .tot .state) (tickOf d fault x y .device .ao .state)
+tick-keeps d fault x y z =
+    let next = tickOf d fault x y z .device in
+    states-still d (next .ain .state) (next .tot .state) (next .ao .state) (next .di .state) (next .dout .state)
 
 pub telegram-keeps : (d : Device) (input : ℕ) (bytes : List ℕ) (block number : ℕ) → T (lasting number (entryOf block number))
     → readOf (telegramOf d input bytes .device) block number ≡ readOf d block number
 unfolding telegramOf
-telegram-keeps d input bytes = states-still d (d .ain .state) (d .tot .state) (telegramOf d input bytes .device .ao .state)
+telegram-keeps d input bytes block number t = go (ltb 1 input)
+  where
+    go : (b : Bool) → readOf (cond b (doutHeard d (doutTelegram (d .dout .state) input bytes)) (aoHeard d (aoTelegram (d .ao .state) input bytes)) .device)
+        block number ≡ readOf d block number
+    go true = states-still d (d .ain .state) (d .tot .state) (d .ao .state) (d .di .state) (doutTelegram (d .dout .state) input bytes .state) block number t
+    go false = states-still d (d .ain .state) (d .tot .state) (aoTelegram (d .ao .state) input bytes .state) (d .di .state) (d .dout .state) block number t
 
 pub warm-start-keeps : (d : Device) (block number : ℕ) → T (lasting number (entryOf block number))
     → readOf (warmStarted d) block number ≡ readOf d block number
 unfolding warmStarted
-warm-start-keeps d = states-still d (warmStarted d .ain .state) (warmStarted d .tot .state) (warmStarted d .ao .state)
+warm-start-keeps d =
+    let next = warmStarted d in
+    states-still d (next .ain .state) (next .tot .state) (next .ao .state) (next .di .state) (next .dout .state)
 
 -- ---- telegrams
 
 -- A refused telegram leaves the device as it was.
 pub refused-telegram : (d : Device) (input : ℕ) (bytes : List ℕ) (r : Refusal) → telegramOf d input bytes .answer ≡ Refused r
     → telegramOf d input bytes .device ≡ d
-unfolding telegramOf aoTelegram
-refused-telegram d input bytes r h =
-    ap (λ (x : AoState). withStates d (d .ain .state) (d .tot .state) x)
-    (refused-keeps (ltb 1 input) (takenOn (d .ao .state) input) (d .ao .state) (received (pairOf bytes)) r h)
+unfolding telegramOf aoTelegram doutTelegram
+refused-telegram d input bytes r = go (ltb 1 input)
+  where
+    go : (b : Bool) → cond b (doutHeard d (doutTelegram (d .dout .state) input bytes)) (aoHeard d (aoTelegram (d .ao .state) input bytes)) .answer ≡ Refused r
+        → cond b (doutHeard d (doutTelegram (d .dout .state) input bytes)) (aoHeard d (aoTelegram (d .ao .state) input bytes)) .device ≡ d
+    go true h =
+        ap (withStates d (d .ain .state) (d .tot .state) (d .ao .state) (d .di .state))
+        (refused-keeps (Dout.lacking input) (Dout.takenOn (d .dout .state) input) (d .dout .state) (Dout.received (discreteOf bytes)) r h)
+    go false h =
+        ap (λ (x : AoState). withStates d (d .ain .state) (d .tot .state) x (d .di .state) (d .dout .state))
+        (refused-keeps (ltb 1 input) (takenOn (d .ao .state) input) (d .ao .state) (received (pairOf bytes)) r h)
 
 -- ---- accepted writes
 
@@ -126,7 +154,7 @@ taken-shown (Parameter class allowed) a b f g t = shown-back (words a b) f g all
 -- the parameter written
 stored-shown : (d : Device) (a b block number : ℕ) → T (storedEntry (entryOf block number))
     → readOf (storedIn d block number a b) block number ≡ Read (shownBy (entryOf block number) (words a b))
-unfolding readOf wordsOf ainWords totWords aoWords physical ain tot ao storedIn ainWritten totWritten aoWritten ainSettings totSettings aoSettings
+unfolding readOf wordsOf ainWords totWords aoWords diWords doutWords discreteWords physical ain tot ao di dout discrete storedIn ainWritten totWritten aoWritten diWritten doutWritten ainSettings totSettings aoSettings diSettings doutSettings
 stored-shown d a b =
     by-rows
     (λ number e. storedEntry e)
@@ -137,8 +165,10 @@ stored-shown d a b =
     (refl also refl also refl also refl also refl also refl also refl also refl also refl also refl also refl also refl also tt)
     (refl also refl also refl also refl also refl also tt)
     (refl also refl also refl also refl also refl also refl also refl also tt)
+    (refl also refl also refl also refl also tt)
+    (refl also refl also refl also refl also refl also tt)
 
--- OUT and TOTAL: no read
+-- OUT, TOTAL and OUT_D: no read
 abbrev unstored : ℕ → Entry → Bool
 unstored number NoBlock = false
 unstored number NoParameter = false
@@ -146,8 +176,8 @@ unstored number (Parameter class allowed) = not (readOnly class) && not (storedE
 
 outputs-still : (d : Device) (a b block′ number′ block number : ℕ) → T (unstored number (entryOf block number))
     → readOf (storedIn d block number a b) block′ number′ ≡ readOf d block′ number′
-unfolding readOf wordsOf ainWords totWords aoWords physical ain tot ao storedIn ainWritten totWritten aoWritten ainSettings totSettings aoSettings revAfter
-    isStatic entryOf entryIn operatedBy
+unfolding readOf wordsOf ainWords totWords aoWords diWords doutWords discreteWords physical ain tot ao di dout discrete storedIn ainWritten totWritten aoWritten diWritten doutWritten ainSettings totSettings aoSettings diSettings doutSettings revAfter
+    isStatic entryOf entryIn operatedBy operatedDout
 outputs-still d a b block′ number′ =
     by-rows
     unstored
@@ -155,6 +185,8 @@ outputs-still d a b block′ number′ =
     (λ block number t. absurd t)
     (λ block number t. absurd t)
     tt
+    (refl also tt)
+    (refl also tt)
     (refl also tt)
     (refl also tt)
     (refl also tt)
@@ -194,6 +226,14 @@ module _ (number n : ℕ) (other : eqb number n ≡ false) where
     unfolding aoWords aoWritten aoSettings operatedBy
     ao-kept s r = simp (keep-rev (isStatic 3 number), keep code, keep float, keep ends)
 
+    di-kept : (s : DiBlock) → (eqb n 1 && isStatic 4 number) ≡ false → diWords (diWritten s number a b) n ≡ diWords s n
+    unfolding diWords discreteWords diWritten diSettings
+    di-kept s r = simp (keep-rev (isStatic 4 number), keep code)
+
+    dout-kept : (s : DoutBlock) → (eqb n 1 && isStatic 5 number) ≡ false → doutWords (doutWritten s number a b) n ≡ doutWords s n
+    unfolding doutWords discreteWords doutWritten doutSettings operatedDout
+    dout-kept s r = simp (keep-rev (isStatic 5 number), keep code)
+
     lock-kept : (d : Device) → T (storedEntry (entryOf 0 number)) → readOf (storedIn d 0 number a b) 0 n ≡ readOf d 0 n
     unfolding readOf wordsOf storedIn entryOf entryIn physical
     lock-kept d t = go (eqb number 18) refl (eqb n 18) refl t
@@ -206,7 +246,7 @@ module _ (number n : ℕ) (other : eqb number n ≡ false) where
 
     block-kept : (d : Device) (block : ℕ) → T (storedEntry (entryOf block number)) → (eqb n 1 && isStatic block number) ≡ false
         → readOf (storedIn d block number a b) block n ≡ readOf d block n
-    unfolding readOf wordsOf storedIn entryOf entryIn ain tot ao
+    unfolding readOf wordsOf storedIn entryOf entryIn ain tot ao di dout discrete
     block-kept d =
         by-block
         (λ (block : ℕ). T (storedEntry (entryOf block number)) → (eqb n 1 && isStatic block number) ≡ false
@@ -215,6 +255,8 @@ module _ (number n : ℕ) (other : eqb number n ≡ false) where
         (λ t r. ap (λ (w : Words). readBy w (entryIn ain n)) (ain-kept (d .ain) r))
         (λ t r. ap (λ (w : Words). readBy w (entryIn tot n)) (tot-kept (d .tot) (unlike tot number 10 t refl) r))
         (λ t r. ap (λ (w : Words). readBy w (entryIn ao n)) (ao-kept (d .ao) r))
+        (λ t r. ap (λ (w : Words). readBy w (entryIn di n)) (di-kept (d .di) r))
+        (λ t r. ap (λ (w : Words). readBy w (entryIn dout n)) (dout-kept (d .dout) r))
         (λ block h t r. absurd (subst (λ (e : Entry). T (storedEntry e)) (no-block block number h) t))
 
 -- another block
@@ -223,6 +265,8 @@ unfolding readOf wordsOf storedIn entryOf
 other-kept d block number a b n =
     by-block
     (λ (block′ : ℕ). eqb block block′ ≡ false → readOf (storedIn d block number a b) block′ n ≡ readOf d block′ n)
+    (λ e. rw e)
+    (λ e. rw e)
     (λ e. rw e)
     (λ e. rw e)
     (λ e. rw e)
@@ -236,7 +280,8 @@ firstOf (Reading.Refused r) = 0
 
 stored-counts : (d : Device) (number a b rev block : ℕ) → 0 < block → T (takes (entryOf block number) a b) → readOf d block 1 ≡ Read (words rev 0)
     → readOf (storedIn d block number a b) block 1 ≡ Read (words (revAfter (isStatic block number) rev) 0)
-unfolding readOf wordsOf ainWords totWords aoWords entryOf entryIn ain tot ao storedIn ainWritten totWritten aoWritten
+unfolding readOf wordsOf ainWords totWords aoWords diWords doutWords discreteWords entryOf entryIn ain tot ao di dout discrete storedIn ainWritten totWritten
+    aoWritten diWritten doutWritten
 stored-counts d number a b rev =
     by-block
     (λ (block : ℕ). 0 < block → T (takes (entryOf block number) a b) → readOf d block 1 ≡ Read (words rev 0)
@@ -245,6 +290,8 @@ stored-counts d number a b rev =
     (λ h t e. ap (λ (x : Reading). Read (words (revAfter (isStatic 1 number) (firstOf x)) 0)) e)
     (λ h t e. ap (λ (x : Reading). Read (words (revAfter (isStatic 2 number) (firstOf x)) 0)) e)
     (λ h t e. ap (λ (x : Reading). Read (words (revAfter (isStatic 3 number) (firstOf x)) 0)) e)
+    (λ h t e. ap (λ (x : Reading). Read (words (revAfter (isStatic 4 number) (firstOf x)) 0)) e)
+    (λ h t e. ap (λ (x : Reading). Read (words (revAfter (isStatic 5 number) (firstOf x)) 0)) e)
     (λ block h f t e. absurd (subst (λ (x : Entry). T (takes x a b)) (no-block block number h) t))
 
 unstored-by : (e : Entry) (number a b : ℕ) → T (takes e a b) → storedEntry e ≡ false → T (unstored number e)

@@ -1,4 +1,4 @@
--- What reads give, document 01, Parameters and Refused calls. Assumes nothing.
+-- What reads give, document 01, Parameters and Refused calls, and document 02, request 3. Assumes nothing.
 use Prim.Native.Nat.{ℕ, _+_, _*_}
 use mathlib.Core.Bool.{Bool, true, false, cond}
 use lib.Dec.{eqb}
@@ -6,6 +6,7 @@ use lib.Ieee.{Float}
 use Rattle.numbers.specs.Floats.{bitsOf}
 use Rattle.scaling.specs.declared.Scale.{Scale}
 use Rattle.wire.specs.declared.Pair.{Pair}
+use Rattle.wire.specs.declared.Discrete.{Discrete}
 use Rattle.wire.specs.Refusal.{ground}
 use Rattle.ain.specs.declared.Alarms.{Alarms}
 use Rattle.parameters.specs.declared.Words.{Words}
@@ -15,6 +16,8 @@ use Rattle.parameters.specs.Table.{words, entryOf}
 use Rattle.device.specs.declared.AinBlock.{AinBlock}
 use Rattle.device.specs.declared.TotBlock.{TotBlock}
 use Rattle.device.specs.declared.AoBlock.{AoBlock}
+use Rattle.device.specs.declared.DiBlock.{DiBlock}
+use Rattle.device.specs.declared.DoutBlock.{DoutBlock}
 use Rattle.device.specs.declared.Device.{Device}
 use Rattle.device.specs.declared.Reading.{Reading}
 use Rattle.device.specs.declared.Reading.the-variants.{Read, Refused}
@@ -85,11 +88,39 @@ aoWords b number =
     (cond (eqb number 37) (given (b .state .out))
     (cond (eqb number 38) (ends (b .settings .«out_scale»)) (words 0 0))))))))))
 
+-- Q3.4a: OUT_D too
+abbrev pub givenD : Discrete → Words
+givenD p = words (p .value) (p .status)
+
+-- Q3.2a: what DI and DO have alike, each beside its number, and what more a block has
+unfoldable pub discreteWords : ℕ → ℕ → ℕ → Discrete → ℕ → ℕ → ℕ → Words → ℕ → Words
+discreteWords rev target mode out invert fsafeType fsafeValD more number =
+    cond (eqb number 1) (code rev)
+    (cond (eqb number 5) (code target)
+    (cond (eqb number 6) (code mode)
+    (cond (eqb number 10) (givenD out)
+    (cond (eqb number 15) (code invert)
+    (cond (eqb number 20) (code fsafeType)
+    (cond (eqb number 21) (code fsafeValD) more))))))
+
+unfoldable pub diWords : DiBlock → ℕ → Words
+diWords b number =
+    discreteWords (b .«st_rev») (b .settings .target) (b .state .mode) (b .state .out) (b .settings .invert) (b .settings .«fsafe_type»)
+    (b .settings .«fsafe_val_d») (words 0 0) number
+
+-- Q3.2b: DO has FSAFE_TIME
+unfoldable pub doutWords : DoutBlock → ℕ → Words
+doutWords b number =
+    discreteWords (b .«st_rev») (b .settings .target) (b .state .mode) (b .state .out) (b .settings .invert) (b .settings .«fsafe_type»)
+    (b .settings .«fsafe_val_d») (cond (eqb number 22) (code (b .settings .«fsafe_time»)) (words 0 0)) number
+
 unfoldable pub wordsOf : Device → ℕ → ℕ → Words
 wordsOf d block number =
     cond (eqb block 0) (code (d .«write_locking»))
     (cond (eqb block 1) (ainWords (d .ain) number)
-    (cond (eqb block 2) (totWords (d .tot) number) (aoWords (d .ao) number)))
+    (cond (eqb block 2) (totWords (d .tot) number)
+    (cond (eqb block 3) (aoWords (d .ao) number)
+    (cond (eqb block 4) (diWords (d .di) number) (doutWords (d .dout) number)))))
 
 -- F2 to F4: a read is refused for its block, then for its parameter
 abbrev pub readBy : Words → Entry → Reading

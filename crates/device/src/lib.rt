@@ -1,13 +1,14 @@
-// The device: the three function blocks and write protection on one value that C can hold, and the calls on it
-// (document 01, Calls on the device; document 02, requests 1 and 2).
+// The device: the five function blocks and write protection on one value that C can hold, and the calls on it
+// (document 01, Calls on the device; document 02, requests 1 to 3).
 ghost use mathlib.Core.Path.{_≡_};
 ghost use Prim.Native.Nat.{_%_, _≤_};
 ghost use denote.Ref.{ptr};
 ghost use Rattle.wire.specs.Image.{imageAnswer, imageBytes, partOf, partPlace};
 ghost use Rattle.parameters.specs.Table.{defaultOf};
-ghost use Rattle.device.specs.Factory.{ainBy, totBy, aoBy, factoryDevice};
-ghost use Rattle.device.specs.Stored.{ainSettings, totSettings, aoSettings, revAfter, pairOf, enteredBy, ainWritten, totWritten, aoWritten, storedIn};
-ghost use Rattle.device.specs.Read.{code, float, ends, given, alarmByte, ainWords, totWords, aoWords, wordsOf, readOf};
+ghost use Rattle.device.specs.Factory.{ainBy, totBy, aoBy, diBy, doutBy, factoryDevice};
+ghost use Rattle.device.specs.Stored.{ainSettings, totSettings, aoSettings, diSettings, doutSettings, revAfter, pairOf, discretePair, enteredBy};
+ghost use Rattle.device.specs.Stored.{ainWritten, totWritten, aoWritten, diWritten, doutWritten, storedIn};
+ghost use Rattle.device.specs.Read.{code, float, ends, given, givenD, alarmByte, ainWords, totWords, aoWords, diWords, doutWords, wordsOf, readOf};
 ghost use Rattle.device.specs.Calls.{standingOf, writeOf, tickOf, telegramOf, tabledBy, loadOf, warmStarted};
 use ain::Alarms;
 use ao::Order;
@@ -19,6 +20,7 @@ use parameters::Standing;
 use parameters::Words;
 use scaling::Scale;
 use wire::Answer;
+use wire::Discrete;
 use wire::Pair;
 use wire::Refusal;
 
@@ -45,11 +47,27 @@ pub struct AoBlock {
 }
 
 #[repr(C)]
+pub struct DiBlock {
+    pub settings: di::Settings,
+    pub state: di::State,
+    pub st_rev: u16,
+}
+
+#[repr(C)]
+pub struct DoutBlock {
+    pub settings: dout::Settings,
+    pub state: dout::State,
+    pub st_rev: u16,
+}
+
+#[repr(C)]
 pub struct Device {
     pub write_locking: u32,
     pub ain: AinBlock,
     pub tot: TotBlock,
     pub ao: AoBlock,
+    pub di: DiBlock,
+    pub dout: DoutBlock,
 }
 
 // The device after a call, and what the call is answered.
@@ -58,10 +76,11 @@ pub struct Answered {
     pub answer: Answer,
 }
 
-// The device after a tick, and AO's drive order.
+// The device after a tick, and the drive orders of AO and of DO.
 pub struct Ticked {
     pub device: Device,
     pub order: Order,
+    pub order_d: dout::Order,
 }
 
 // What a read is answered.
@@ -125,15 +144,42 @@ fn default_ao() -> ao::Settings
     }
 }
 
+fn default_di() -> di::Settings
+    ensures { λ r. ⌜ r ≡ diBy defaultOf ⌝ }
+{
+    di::Settings {
+        target: blocks::AUTO,
+        invert: 0,
+        fsafe_type: 0,
+        fsafe_val_d: 0,
+    }
+}
+
+fn default_dout() -> dout::Settings
+    ensures { λ r. ⌜ r ≡ doutBy defaultOf ⌝ }
+{
+    dout::Settings {
+        target: blocks::AUTO,
+        invert: 0,
+        fsafe_type: 0,
+        fsafe_val_d: 0,
+        fsafe_time: 0,
+    }
+}
+
 pub fn factory() -> Device
     ensures { λ r. ⌜ r ≡ factoryDevice ⌝ }
 {
     let ain_settings = default_ain();
     let tot_settings = default_tot();
     let ao_settings = default_ao();
+    let di_settings = default_di();
+    let dout_settings = default_dout();
     let ain_state = ain::fresh();
     let tot_state = tot::fresh();
     let ao_state = ao::fresh();
+    let di_state = di::fresh();
+    let dout_state = dout::fresh();
     let no_table = linearisation::none();
     Device {
         write_locking: 2457,
@@ -151,6 +197,16 @@ pub fn factory() -> Device
         ao: AoBlock {
             settings: ao_settings,
             state: ao_state,
+            st_rev: 0,
+        },
+        di: DiBlock {
+            settings: di_settings,
+            state: di_state,
+            st_rev: 0,
+        },
+        dout: DoutBlock {
+            settings: dout_settings,
+            state: dout_state,
             st_rev: 0,
         },
     }
@@ -219,6 +275,35 @@ fn ao_settings(s: ao::Settings, parameter: u8, a: u32, b: u32) -> ao::Settings
     next
 }
 
+fn di_settings(s: di::Settings, parameter: u8, a: u32) -> di::Settings
+    ensures { λ r. ⌜ r ≡ diSettings s parameter a ⌝ }
+{
+    let mut next = s;
+    match parameter {
+        5 => next.target = a,
+        15 => next.invert = a,
+        20 => next.fsafe_type = a,
+        21 => next.fsafe_val_d = a,
+        _ => {}
+    }
+    next
+}
+
+fn dout_settings(s: dout::Settings, parameter: u8, a: u32) -> dout::Settings
+    ensures { λ r. ⌜ r ≡ doutSettings s parameter a ⌝ }
+{
+    let mut next = s;
+    match parameter {
+        5 => next.target = a,
+        15 => next.invert = a,
+        20 => next.fsafe_type = a,
+        21 => next.fsafe_val_d = a,
+        22 => next.fsafe_time = a,
+        _ => {}
+    }
+    next
+}
+
 fn rev_after(counted: bool, rev: u16) -> u16
     ensures { λ r. ⌜ r ≡ revAfter counted rev ⌝ }
 {
@@ -228,7 +313,7 @@ fn rev_after(counted: bool, rev: u16) -> u16
     rev
 }
 
-fn status_of(b: u32) -> u8
+fn byte_of(b: u32) -> u8
     ensures { λ r. ⌜ r ≡ b % 256 ⌝ }
 {
     (b % 256) as u8
@@ -244,12 +329,33 @@ fn entered(parameter: u8, a: u32, target: u32, given: Pair, operator: Pair) -> P
     }
 }
 
+// The same of DI or DO.
+fn entered_d(parameter: u8, a: u32, target: u32, out: Discrete, operator: Discrete) -> Discrete
+    ensures { λ r. ⌜ r ≡ enteredBy parameter a target out operator ⌝ }
+{
+    match parameter {
+        5 => blocks::operator_after_d(target, a, out, operator),
+        _ => operator,
+    }
+}
+
 fn pair_of(a: u32, b: u32) -> Pair
     ensures { λ r. ⌜ r ≡ pairOf a b ⌝ }
 {
-    let status = status_of(b);
+    let status = byte_of(b);
     Pair {
         bits: a,
+        status: status,
+    }
+}
+
+fn discrete_pair(a: u32, b: u32) -> Discrete
+    ensures { λ r. ⌜ r ≡ discretePair a b ⌝ }
+{
+    let value = byte_of(a);
+    let status = byte_of(b);
+    Discrete {
+        value: value,
         status: status,
     }
 }
@@ -282,7 +388,7 @@ fn tot_written(block: TotBlock, parameter: u8, a: u32, b: u32) -> TotBlock
     let counted = parameters::counts(2, parameter);
     let rev = rev_after(counted, block.st_rev);
     let settings = tot_settings(block.settings, parameter, a);
-    let status = status_of(b);
+    let status = byte_of(b);
     let old = block.state;
     let written = tot::written(old, a, status);
     match parameter {
@@ -321,6 +427,50 @@ fn ao_written(block: AoBlock, parameter: u8, a: u32, b: u32) -> AoBlock
     next
 }
 
+fn di_written(block: DiBlock, parameter: u8, a: u32, b: u32) -> DiBlock
+    ensures { λ r. ⌜ r ≡ diWritten block parameter a b ⌝ }
+{
+    let counted = parameters::counts(4, parameter);
+    let rev = rev_after(counted, block.st_rev);
+    let settings = di_settings(block.settings, parameter, a);
+    let old = block.state;
+    let written = discrete_pair(a, b);
+    let taken = entered_d(parameter, a, block.settings.target, old.out, old.operator);
+    let with_written = di::operated(old, written);
+    let with_taken = di::operated(old, taken);
+    let mut next = block;
+    next.settings = settings;
+    next.state = with_taken;
+    next.st_rev = rev;
+    match parameter {
+        10 => next.state = with_written,
+        _ => {}
+    }
+    next
+}
+
+fn dout_written(block: DoutBlock, parameter: u8, a: u32, b: u32) -> DoutBlock
+    ensures { λ r. ⌜ r ≡ doutWritten block parameter a b ⌝ }
+{
+    let counted = parameters::counts(5, parameter);
+    let rev = rev_after(counted, block.st_rev);
+    let settings = dout_settings(block.settings, parameter, a);
+    let old = block.state;
+    let written = discrete_pair(a, b);
+    let taken = entered_d(parameter, a, block.settings.target, old.out, old.operator);
+    let with_written = dout::operated(old, written);
+    let with_taken = dout::operated(old, taken);
+    let mut next = block;
+    next.settings = settings;
+    next.state = with_taken;
+    next.st_rev = rev;
+    match parameter {
+        10 => next.state = with_written,
+        _ => {}
+    }
+    next
+}
+
 fn stored(d: Device, block: u8, parameter: u8, a: u32, b: u32) -> Device
     ensures { λ r. ⌜ r ≡ storedIn d block parameter a b ⌝ }
 {
@@ -339,6 +489,14 @@ fn stored(d: Device, block: u8, parameter: u8, a: u32, b: u32) -> Device
             let ao = ao_written(d.ao, parameter, a, b);
             next.ao = ao;
         }
+        4 => {
+            let di = di_written(d.di, parameter, a, b);
+            next.di = di;
+        }
+        5 => {
+            let dout = dout_written(d.dout, parameter, a, b);
+            next.dout = dout;
+        }
         _ => {}
     }
     next
@@ -353,6 +511,8 @@ fn standing(d: Device) -> Standing
         ain: d.ain.settings.target,
         tot: d.tot.settings.target,
         ao: d.ao.settings.target,
+        di: d.di.settings.target,
+        dout: d.dout.settings.target,
         table: table,
     }
 }
@@ -411,6 +571,15 @@ fn pair_words(pair: Pair) -> Words
 {
     Words {
         first: pair.bits,
+        second: pair.status as u32,
+    }
+}
+
+fn discrete_words(pair: Discrete) -> Words
+    ensures { λ r. ⌜ r ≡ givenD pair ⌝ }
+{
+    Words {
+        first: pair.value as u32,
         second: pair.status as u32,
     }
 }
@@ -493,6 +662,37 @@ fn ao_words(b: AoBlock, parameter: u8) -> Words
     }
 }
 
+fn di_words(b: DiBlock, parameter: u8) -> Words
+    ensures { λ r. ⌜ r ≡ diWords b parameter ⌝ }
+{
+    match parameter {
+        1 => code_words(b.st_rev as u32),
+        5 => code_words(b.settings.target),
+        6 => code_words(b.state.mode),
+        10 => discrete_words(b.state.out),
+        15 => code_words(b.settings.invert),
+        20 => code_words(b.settings.fsafe_type),
+        21 => code_words(b.settings.fsafe_val_d),
+        _ => code_words(0),
+    }
+}
+
+fn dout_words(b: DoutBlock, parameter: u8) -> Words
+    ensures { λ r. ⌜ r ≡ doutWords b parameter ⌝ }
+{
+    match parameter {
+        1 => code_words(b.st_rev as u32),
+        5 => code_words(b.settings.target),
+        6 => code_words(b.state.mode),
+        10 => discrete_words(b.state.out),
+        15 => code_words(b.settings.invert),
+        20 => code_words(b.settings.fsafe_type),
+        21 => code_words(b.settings.fsafe_val_d),
+        22 => code_words(b.settings.fsafe_time),
+        _ => code_words(0),
+    }
+}
+
 fn words_of(d: Device, block: u8, parameter: u8) -> Words
     ensures { λ r. ⌜ r ≡ wordsOf d block parameter ⌝ }
 {
@@ -500,7 +700,9 @@ fn words_of(d: Device, block: u8, parameter: u8) -> Words
         0 => code_words(d.write_locking),
         1 => ain_words(d.ain, parameter),
         2 => tot_words(d.tot, parameter),
-        _ => ao_words(d.ao, parameter),
+        3 => ao_words(d.ao, parameter),
+        4 => di_words(d.di, parameter),
+        _ => dout_words(d.dout, parameter),
     }
 }
 
@@ -520,8 +722,8 @@ pub fn read(d: Device, block: u8, parameter: u8) -> Reading
 
 // ---- tick, telegram, load, warm start
 
-pub fn tick(d: Device, fault: bool, ain: Pair, tot: Pair) -> Ticked
-    ensures { λ r. ⌜ r ≡ tickOf d fault ain tot ⌝ }
+pub fn tick(d: Device, fault: bool, ain: Pair, tot: Pair, di: Discrete) -> Ticked
+    ensures { λ r. ⌜ r ≡ tickOf d fault ain tot di ⌝ }
 {
     let ain_state = ain::tick(
         d.ain.settings,
@@ -533,27 +735,52 @@ pub fn tick(d: Device, fault: bool, ain: Pair, tot: Pair) -> Ticked
     );
     let tot_state = tot::tick(d.tot.settings, d.tot.state, fault, tot.bits, tot.status);
     let ao_ticked = ao::tick(d.ao.settings, d.ao.state, fault);
+    let di_state = di::tick(d.di.settings, d.di.state, fault, di.value, di.status);
+    let dout_ticked = dout::tick(d.dout.settings, d.dout.state, fault);
     let ao_state = ao_ticked.state;
     let order = ao_ticked.order;
+    let dout_state = dout_ticked.state;
+    let order_d = dout_ticked.order;
     let mut ain_next = d.ain;
     let mut tot_next = d.tot;
     let mut ao_next = d.ao;
+    let mut di_next = d.di;
+    let mut dout_next = d.dout;
     ain_next.state = ain_state;
     tot_next.state = tot_state;
     ao_next.state = ao_state;
+    di_next.state = di_state;
+    dout_next.state = dout_state;
     let mut next = d;
     next.ain = ain_next;
     next.tot = tot_next;
     next.ao = ao_next;
+    next.di = di_next;
+    next.dout = dout_next;
     Ticked {
         device: next,
         order: order,
+        order_d: order_d,
     }
 }
 
 pub fn telegram(d: Device, input: u8, bytes: &[u8]) -> Answered
     ensures { λ r. ⌜ r ≡ telegramOf d input (now (bytes .entry)) ⌝ }
 {
+    let discrete = input > 1;
+    if discrete {
+        let taken_d = dout::telegram(d.dout.state, input, bytes);
+        let received_d = taken_d.state;
+        let answer_d = taken_d.answer;
+        let mut dout_next = d.dout;
+        dout_next.state = received_d;
+        let mut next_d = d;
+        next_d.dout = dout_next;
+        return Answered {
+            device: next_d,
+            answer: answer_d,
+        };
+    }
     let taken = ao::telegram(d.ao.state, input, bytes);
     let received = taken.state;
     let answer = taken.answer;
@@ -619,16 +846,24 @@ pub fn warm_start(d: Device) -> Device
     let ain_started = ain::warm_start(d.ain.state);
     let tot_started = tot::warm_start(d.tot.state);
     let ao_started = ao::warm_start(d.ao.state);
+    let di_started = di::warm_start(d.di.state);
+    let dout_started = dout::warm_start(d.dout.state);
     let mut ain_next = d.ain;
     let mut tot_next = d.tot;
     let mut ao_next = d.ao;
+    let mut di_next = d.di;
+    let mut dout_next = d.dout;
     ain_next.state = ain_started;
     tot_next.state = tot_started;
     ao_next.state = ao_started;
+    di_next.state = di_started;
+    dout_next.state = dout_started;
     let mut next = d;
     next.ain = ain_next;
     next.tot = tot_next;
     next.ao = ao_next;
+    next.di = di_next;
+    next.dout = dout_next;
     next
 }
 
@@ -637,12 +872,19 @@ pub fn warm_start(d: Device) -> Device
 // The blocks' values and statuses as last given, into the front of a buffer.
 pub fn image(d: Device, buf: &mut [u8]) -> Answer
     ensures { λ r. ⌜ r ≡ imageAnswer (now (buf .entry)) ⌝ }
-    ensures { λ _. ⌜ now (buf .exit) ≡ imageBytes (now (buf .entry)) (d .ain .state .out) (d .tot .state .out) (d .ao .state .out) ⌝ }
+    ensures { λ _. ⌜ now (buf .exit) ≡ imageBytes (now (buf .entry)) (d .ain .state .out) (d .tot .state .out) (d .ao .state .out) (d .di .state .out) (d .dout .state .out) ⌝ }
 {
-    wire::image(buf, d.ain.state.out, d.tot.state.out, d.ao.state.out)
+    wire::image(
+        buf,
+        d.ain.state.out,
+        d.tot.state.out,
+        d.ao.state.out,
+        d.di.state.out,
+        d.dout.state.out,
+    )
 }
 
-// One block's five bytes of an image, lent out of the buffer itself.
+// One block's bytes of an image, lent out of the buffer itself.
 pub fn part(buf: &[u8], block: u8) -> &[u8]
     ensures { λ r. ⌜ now r ≡ partOf (now (buf .entry)) block ⌝ }
     ensures { λ r. ⌜ ptr r ≡ partPlace (ptr (buf .entry)) (now (buf .entry)) block ⌝ }
