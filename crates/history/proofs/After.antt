@@ -8,17 +8,19 @@ use lib.Dec.{T}
 use lib.Ieee.Fits.{and-l, and-r, and-i}
 use lib.ListN.{length, getD}
 use Rattle.wire.specs.declared.Pair.{Pair}
+use Rattle.wire.specs.declared.Discrete.{Discrete}
 use Rattle.wire.specs.declared.Answer.{Answer}
 use Rattle.wire.specs.Image.{imageBytes}
 use Rattle.device.specs.declared.Device.{Device}
+use Rattle.device.specs.Factory.{factoryDevice}
 use Rattle.device.specs.Read.{readOf}
 use Rattle.device.specs.Calls.{tickOf, writeOf, telegramOf, loadOf}
 use Rattle.history.specs.declared.Replayed.{Replayed}
-use Rattle.history.specs.Past.{History, start, _▷_}
-use Rattle.history.specs.Calls.{Fed, tickedBy, Call, tick, write, load, Event, fitting, allFit, after, event, reachedFrom, traceFrom, reached, trace}
-use Rattle.history.specs.Rules.{accepted, reading, total, order, toWrite, toTelegram, toLoad}
+use Rattle.history.specs.Past.{History, start, _▷_, Each}
+use Rattle.history.specs.Calls.{Fed, tickedBy, seenOf, Call, tick, write, load, Event, fitting, allFit, after, event, reachedFrom, traceFrom, reached, trace}
+use Rattle.history.specs.Rules.{accepted, reading, total, order, orderD, toWrite, toTelegram, toLoad}
 use Rattle.history.specs.Rules as Rules
-use Rattle.history.specs.Claim.{answers, Claim}
+use Rattle.history.specs.Claim.{TickClaim, Tick, answers, Claim}
 use Rattle.history.specs.Encoded.{callsFrom, decoded, Replays, listed, heard}
 use Rattle.history.proofs.Theorem.{demand-3}
 use Rattle.history.proofs.Run.{fitO, all-fit}
@@ -38,12 +40,12 @@ fit-more : (cs : List Call) (c : Call) → T (allFit cs) → T (fitting c) → T
 fit-more [] c t f = and-i (fitting c) (allFit []) f tt
 fit-more (x ∷ cs) c t f = and-i (fitting x) (allFit (cs ++ (c ∷ []))) (and-l (fitting x) (allFit cs) t) (fit-more cs c (and-r (fitting x) (allFit cs) t) f)
 
--- the order of a tick after a list
-order-next : (cs : List Call) → T (allFit cs) → (fault : Bool) (fed : Fed) → tickedBy (reached cs) fault fed .order ≡ order (accepted (trace cs)) fault
+-- the orders of a tick after a list
+tick-next : (cs : List Call) → T (allFit cs) → (fault : Bool) (fed : Fed) → TickClaim (accepted (trace cs)) fault fed (seenOf (tickedBy (reached cs) fault fed))
 unfolding reached trace event accepted
-order-next cs fit fault fed =
+tick-next cs fit fault fed =
     let all = demand-3 (cs ++ (tick fault fed ∷ [])) (fit-more cs (tick fault fed) fit tt) .ticks in
-    subst (λ (h : History Event). Rattle.history.specs.Past.Each Rattle.history.specs.Claim.Tick (accepted h)) (trace-more cs (tick fault fed) Rattle.device.specs.Factory.factoryDevice start) all .1 .drive
+    subst (λ (h : History Event). Each Tick (accepted h)) (trace-more cs (tick fault fed) factoryDevice start) all .1
 
 module _ (s : List ℕ) (bytes : (i : ℕ) → getD s i 0 < 256) (r : Replayed) (R : Replays s r) where
   -- the list that it leads to; a malformed one to that without a call
@@ -73,9 +75,13 @@ module _ (s : List ℕ) (bytes : (i : ℕ) → getD s i 0 < 256) (r : Replayed) 
   unfolding heard
   total-is = ap (λ (d : Device). d .tot .state .total) is ∙ claimed .total
 
-  pub drive-is : (fault : Bool) (ain tot : Pair) → tickOf (r .device) fault ain tot .order ≡ order (heard s) fault
+  pub drive-is : (fault : Bool) (ain tot : Pair) (di : Discrete) → tickOf (r .device) fault ain tot di .order ≡ order (heard s) fault
   unfolding heard
-  drive-is fault ain tot = let fed : Fed = record { ain = ain; tot = tot } in ap (λ (d : Device). tickedBy d fault fed .order) is ∙ order-next (listed (decoded s)) fits fault fed
+  drive-is fault ain tot di = let fed : Fed = record { ain = ain; tot = tot; di = di } in ap (λ (d : Device). tickedBy d fault fed .order) is ∙ tick-next (listed (decoded s)) fits fault fed .drive
+
+  pub drive-d-is : (fault : Bool) (ain tot : Pair) (di : Discrete) → tickOf (r .device) fault ain tot di .«order_d» ≡ orderD (heard s) fault
+  unfolding heard
+  drive-d-is fault ain tot di = let fed : Fed = record { ain = ain; tot = tot; di = di } in ap (λ (d : Device). tickedBy d fault fed .«order_d») is ∙ tick-next (listed (decoded s)) fits fault fed .driveD
 
   pub write-is : (block number a b : ℕ) → writeOf (r .device) block number a b .answer ≡ toWrite (heard s) block number a b
   unfolding heard event
@@ -89,9 +95,9 @@ module _ (s : List ℕ) (bytes : (i : ℕ) → getD s i 0 < 256) (r : Replayed) 
   unfolding heard event
   load-is lent = ap (λ (d : Device). loadOf d lent .answer) is ∙ claimed .next (load lent)
 
-  pub image-is : (buffer : List ℕ) → imageBytes buffer (r .device .ain .state .out) (r .device .tot .state .out) (r .device .ao .state .out) ≡ Rules.image (heard s) buffer
+  pub image-is : (buffer : List ℕ) → imageBytes buffer (r .device .ain .state .out) (r .device .tot .state .out) (r .device .ao .state .out) (r .device .di .state .out) (r .device .dout .state .out) ≡ Rules.image (heard s) buffer
   unfolding heard
-  image-is buffer = ap (λ (d : Device). imageBytes buffer (d .ain .state .out) (d .tot .state .out) (d .ao .state .out)) is ∙ claimed .image buffer .1
+  image-is buffer = ap (λ (d : Device). imageBytes buffer (d .ain .state .out) (d .tot .state .out) (d .ao .state .out) (d .di .state .out) (d .dout .state .out)) is ∙ claimed .image buffer .1
 
   pub image-answered : (buffer : List ℕ) → Rattle.wire.specs.Image.imageAnswer buffer ≡ Rules.toImage buffer
   image-answered buffer = claimed .image buffer .0

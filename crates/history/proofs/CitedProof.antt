@@ -59,7 +59,7 @@ part-same s block = ap (λ (x : List ℕ). cond (leb 19 (length s) && leb 1 bloc
     go false = refl
 
 pub cited-points : Cited
-unfolding statics kepts outputs readOnlys has defaults stored latest table tabled linear said toWrite toLoad isWhole pairsIn pairsFrom scaled calculated aoScaled fractionOf atFraction allowedScale pairOf incrementOf thousandthsOf sumOf valueGiven Whole.limit Whole.highest24ℤ Whole.highestBits Table.entryOf Table.entryIn Table.rowsOf Table.physical Table.ain Table.tot Table.ao Table.di Table.dout discreteOf allowsOf ofInt ofBits toBits add sub mul div lt le eq ne toSigned neg lib.Ieee.size
+unfolding statics kepts outputs readOnlys has defaults stored latest table tabled linear said toWrite toLoad isWhole pairsIn pairsFrom scaled calculated aoScaled fractionOf atFraction allowedScale pairOf incrementOf thousandthsOf sumOf valueGiven Whole.limit Whole.highest24ℤ Whole.highestBits Table.entryOf Table.entryIn Table.rowsOf Table.physical Table.ain Table.tot Table.ao Table.di Table.dout Table.discrete discreteOf allowsOf ofInt ofBits toBits add sub mul div lt le eq ne toSigned neg lib.Ieee.size
 cited-points = record {
   measured = λ tot di seen. unfold given senses ainSensed modeAt filterValue carried ainBad badStatus alarmed standsWith stands since raises clears in refl;
   alarm = λ fed status seen. unfold standsWith stands since raises clears modeAt in (refl, refl, refl);

@@ -42,7 +42,7 @@ each p (n ∷ ns) t number m = go (each p ns (and-r (p n) (every p ns) t) number
 
 -- a number that the rules list has a row
 listed-present : (block number : ℕ) → T (has block number) → T (present number (entryOf block number))
-unfolding has statics kepts outputs readOnlys entryOf entryIn Table.physical Table.ain Table.tot Table.ao Table.di Table.dout
+unfolding has statics kepts outputs readOnlys entryOf entryIn Table.physical Table.ain Table.tot Table.ao Table.di Table.dout Table.discrete
 listed-present block number =
     by-block
     (λ (b : ℕ). T (has b number) → T (present number (entryOf b number)))
@@ -60,7 +60,7 @@ listed-present block number =
 
 -- and a row's number is listed
 row-listed : (block number : ℕ) → T (present number (entryOf block number)) → has block number ≡ true
-unfolding has statics kepts outputs readOnlys Table.physical Table.ain Table.tot Table.ao Table.di Table.dout
+unfolding has statics kepts outputs readOnlys Table.physical Table.ain Table.tot Table.ao Table.di Table.dout Table.discrete
 row-listed =
     by-rows
     present
@@ -131,7 +131,7 @@ standingAt h = record { lock = code h 0 18; ain = code h 1 5; tot = code h 2 5; 
 
 module _ (h : History Event) (a b : ℕ) where
   row-ground : (block number : ℕ) → T (present number (entryOf block number)) → groundBy (standingAt h) block number a b (entryOf block number) ≡ toWrite h block number a b
-  unfolding standingAt toWrite has statics kepts outputs readOnlys targetIn entryOf entryIn Table.physical Table.ain Table.tot Table.ao Table.di Table.dout
+  unfolding standingAt toWrite has statics kepts outputs readOnlys targetIn entryOf entryIn Table.physical Table.ain Table.tot Table.ao Table.di Table.dout Table.discrete
   row-ground =
       by-rows
       present
@@ -165,7 +165,7 @@ among-left (x ∷ xs) ys number e = go (among-left xs ys number) (eqb number x) 
     go rest false e = rest e
 
 row-static : (block number : ℕ) → T (present number (entryOf block number)) → staticEntry (entryOf block number) ≡ among (statics block) number
-unfolding statics Table.physical Table.ain Table.tot Table.ao Table.di Table.dout
+unfolding statics Table.physical Table.ain Table.tot Table.ao Table.di Table.dout Table.discrete
 row-static =
     by-rows
     present

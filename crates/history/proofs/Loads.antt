@@ -22,13 +22,14 @@ use Rattle.linearisation.specs.Value.{orHere, usedOn, between, byUsed, valueAt}
 use Rattle.linearisation.specs.Laws.{pairs-back, made-valid}
 use Rattle.ain.specs.Tick as Ain
 use Rattle.ao.specs.State.{inputFrom}
+use Rattle.dout.specs.State as Dout
 use Rattle.device.specs.declared.Device.{Device}
 use Rattle.device.specs.declared.Answered.{Answered}
 use Rattle.device.specs.Calls.{loadBy, loadOf}
 use Rattle.history.specs.Past.{History, _▷_, told, count, latest, carried}
 use Rattle.history.specs.Calls.{Event, loaded}
-use Rattle.history.specs.Rules.{Drive, analogOut, orElse, stored, table, along, said, lowest, linear, measured, isWhole, allFinite, rising, code, refused, tabled, toLoad, isStaticWrite, stRev, operator, total}
-use Rattle.history.proofs.Ruled.{inputAt, aoInput, ainAt, totAt, aoAt, ainIn, totIn, aoIn, deviceOf, ain-left, tot-left, ao-left, rev-step, input-still}
+use Rattle.history.specs.Rules.{Drive, analogOut, discreteOut, discrete, orElse, stored, table, along, said, lowest, linear, measured, isWhole, allFinite, rising, code, refused, tabled, toLoad, isStaticWrite, stRev, operator, total}
+use Rattle.history.proofs.Ruled.{inputAt, aoInput, doutInput, ainAt, totAt, aoAt, diAt, doutAt, ainIn, totIn, aoIn, diIn, doutIn, deviceOf, ain-left, tot-left, ao-left, di-left, dout-left, rev-step, input-still}
 
 -- ---- what a value becomes
 
@@ -70,7 +71,7 @@ measured-is h x = ap (λ (y : Float). cond (eqb (code h 1 13) 1) y x) (ap (λ (p
 
 -- ---- what bytes are refused for
 
-refused-other : {r : Refusal} → Refused r ≡ Accepted → ⊥
+pub refused-other : {r : Refusal} → Refused r ≡ Accepted → ⊥
 refused-other e = let z : _≡_ {A = ℕ} 0 1 = cc in omega arith
 
 same : (a b : Bool) → (T a → T b) → (T b → T a) → a ≡ b
@@ -246,6 +247,14 @@ module _ (h : History Event) (bytes : List ℕ) where
   unfolding aoIn operator latest
   ao-same = ao-left h (loaded bytes) (λ A f s o. refl) (operator 3 h) (aoInput 0 h) (aoInput 1 h) refl (ap inputFrom (input-same analogOut 0)) (ap inputFrom (input-same analogOut 1))
 
+  di-same : diIn h ≡ diIn then
+  unfolding diIn operator latest
+  di-same = di-left h (loaded bytes) (λ A f s o. refl) (discrete (operator 4 h)) refl
+
+  dout-same : doutIn h ≡ doutIn then
+  unfolding doutIn operator latest
+  dout-same = dout-left h (loaded bytes) (λ A f s o. refl) (discrete (operator 5 h)) (doutInput 2 h) (doutInput 3 h) refl (ap Dout.inputFrom (input-same discreteOut 2)) (ap Dout.inputFrom (input-same discreteOut 3))
+
   module _ (e : toLoad h bytes ≡ Accepted) where
     parts : (eqb (code h 0 18) 0 ≡ false) × (judged bytes ≡ Accepted)
     parts = go (eqb (code h 0 18) 0) (unfold toLoad in e)
@@ -260,12 +269,14 @@ module _ (h : History Event) (bytes : List ℕ) where
 
     -- an accepted load leads from the device by the rules to the next
     pub ruled-load : loadOf (deviceOf h) bytes .device ≡ deviceOf then
-    unfolding deviceOf stored latest table ainAt totAt aoAt stRev count
+    unfolding deviceOf stored latest table ainAt totAt aoAt diAt doutAt stRev count
     ruled-load = ap (λ (x : Answered). x .device) unlocked ∙ (λ i. record {
       «write_locking» = code h 0 18;
       ain = record { settings = ainAt h; state = ain-same i; «st_rev» = rev-step true (count (isStaticWrite 1) h) i; table = tableOf (pairsIn bytes) };
       tot = record { settings = totAt h; state = tot-same i; «st_rev» = stRev h 2 };
       ao = record { settings = aoAt h; state = ao-same i; «st_rev» = stRev h 3 };
+      di = record { settings = diAt h; state = di-same i; «st_rev» = stRev h 4 };
+      dout = record { settings = doutAt h; state = dout-same i; «st_rev» = stRev h 5 };
     })
 
     -- and a table came

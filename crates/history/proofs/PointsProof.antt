@@ -16,7 +16,7 @@ use Rattle.parameters.specs.Table as Table
 use Rattle.parameters.specs.Words.{allowsOf}
 use Rattle.parameters.specs.Refused.{ground}
 use Rattle.device.specs.Stored.{storedIn, ainWritten, ainSettings}
-use Rattle.device.specs.Factory.{factoryDevice, ainBy, totBy, aoBy}
+use Rattle.device.specs.Factory.{factoryDevice, ainBy, totBy, aoBy, diBy, doutBy}
 use Rattle.device.specs.Calls.{writeOf, tickOf}
 use Rattle.history.specs.Past.{History, start, count, countSince, since, latest}
 use Rattle.history.specs.Calls.{after, reachedFrom, reached, Event, wrote}
@@ -61,7 +61,7 @@ all-met (suc n) = rw (all-met n, met n)
 pub points : Points
 points = record {
   a = (refl, refl, refl);
-  b = λ tot di. unfold reached reachedFrom after writeOf ground Table.entryOf Table.entryIn Table.ain allowsOf allowedScale storedIn ainWritten ainSettings factoryDevice ainBy totBy aoBy diBy doutBy Table.defaultOf Table.defaultIn Table.rowsOf Table.physical Table.tot Table.ao Table.di Table.dout tickOf Ain.tickOf Ain.tickBy Ain.autoTick Ain.autoBy Ain.inputOf Ain.measured Ain.scaledValue Ain.calculated Ain.usableTick actualMode inputStatus scaledOf filtered fractionOf atFraction alarmsOf alarmStands rises falls alarmStatus ofInt ofBits toBits add sub mul div lt le eq ne neg in refl;
+  b = λ tot di. unfold reached reachedFrom after writeOf ground Table.entryOf Table.entryIn Table.ain allowsOf allowedScale storedIn ainWritten ainSettings factoryDevice ainBy totBy aoBy diBy doutBy Table.defaultOf Table.defaultIn Table.rowsOf Table.physical Table.tot Table.ao Table.di Table.dout Table.discrete tickOf Ain.tickOf Ain.tickBy Ain.autoTick Ain.autoBy Ain.inputOf Ain.measured Ain.scaledValue Ain.calculated Ain.usableTick actualMode inputStatus scaledOf filtered fractionOf atFraction alarmsOf alarmStands rises falls alarmStatus ofInt ofBits toBits add sub mul div lt le eq ne neg in refl;
   c = unfold filtered scaledOf fractionOf atFraction ofInt ofBits add sub mul div eq in refl;
   d = unfold alarmStands rises falls ofInt ofBits sub lt le in (refl, refl, refl);
   e = unfold incrementOf Whole.limit ofInt ofBits mul toSigned in refl;

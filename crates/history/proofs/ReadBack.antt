@@ -23,7 +23,7 @@ use Rattle.parameters.specs.Laws.{by-rows, _also_, shown, shownBy, shown-back}
 use Rattle.parameters.specs.Table as Table
 use Rattle.device.specs.declared.Reading.{Reading}
 use Rattle.device.specs.declared.Reading.the-variants.{Read}
-use Rattle.device.specs.Read.{bit, alarmByte, ainWords, totWords, aoWords, diWords, doutWords, wordsOf, readOf, readBy}
+use Rattle.device.specs.Read.{bit, alarmByte, ainWords, totWords, aoWords, diWords, doutWords, discreteWords, wordsOf, readOf, readBy}
 use Rattle.history.specs.Past.{History}
 use Rattle.history.specs.Calls.{Event, words}
 use Rattle.history.specs.Rules.{discrete, has, outputs, readOnlys, stored, stands, hiHi, hi, lo, loLo, alarmSum, given, reading, toImage}
@@ -79,7 +79,7 @@ module _ (h : History Event) (Q : Sound h) where
 
   -- stored parameters, as the settings give them
   stored-read : (block number : ℕ) → T (storedEntry (entryOf block number)) → readBy (wordsOf (deviceOf h) block number) (entryOf block number) ≡ Read (shownBy (entryOf block number) (stored h block number))
-  unfolding deviceOf wordsOf ainWords totWords aoWords diWords doutWords Table.physical Table.ain Table.tot Table.ao Table.di Table.dout ainAt totAt aoAt diAt doutAt
+  unfolding deviceOf wordsOf ainWords totWords aoWords diWords doutWords discreteWords Table.physical Table.ain Table.tot Table.ao Table.di Table.dout Table.discrete ainAt totAt aoAt diAt doutAt
   stored-read =
       by-rows
       (λ number e. storedEntry e)
@@ -95,7 +95,7 @@ module _ (h : History Event) (Q : Sound h) where
 
   -- the rules read them as stored
   stored-shown : (block number : ℕ) → T (storedEntry (entryOf block number)) → Rules.shown h block number ≡ stored h block number
-  unfolding Rules.shown outputs readOnlys Table.physical Table.ain Table.tot Table.ao Table.di Table.dout
+  unfolding Rules.shown outputs readOnlys Table.physical Table.ain Table.tot Table.ao Table.di Table.dout Table.discrete
   stored-shown =
       by-rows
       (λ number e. storedEntry e)
@@ -110,7 +110,7 @@ module _ (h : History Event) (Q : Sound h) where
       (refl also refl also refl also refl also refl also tt)
 
   other-read : (block number : ℕ) → T (unstored number (entryOf block number)) → readBy (wordsOf (deviceOf h) block number) (entryOf block number) ≡ Read (Rules.shown h block number)
-  unfolding deviceOf wordsOf ainWords totWords aoWords diWords doutWords Table.physical Table.ain Table.tot Table.ao Table.di Table.dout ainIn totIn aoIn diIn doutIn Rules.shown outputs readOnlys
+  unfolding deviceOf wordsOf ainWords totWords aoWords diWords doutWords discreteWords Table.physical Table.ain Table.tot Table.ao Table.di Table.dout Table.discrete ainIn totIn aoIn diIn doutIn Rules.shown outputs readOnlys
   other-read =
       by-rows
       unstored

@@ -3,8 +3,9 @@ use Prim.Native.Nat.{ℕ, _+_, _%_, _≤_, min}
 use native.Mathlib.Omega.{arith}
 use mathlib.Core.Path.{_≡_, refl, sym, ap, _∙_}
 use mathlib.Core.Bool.{Bool, true, false, not, _&&_, _||_, cond, true≢false}
+use mathlib.Core.Logic.{inl, inr}
 use mathlib.Core.Option.{Option, none, some}
-use lib.Dec.{T, eqb}
+use lib.Dec.{T, eqb, ltb}
 use lib.IntN.{ℤ}
 use lib.Ieee.{Float}
 use Rattle.numbers.specs.Floats.{floatOf}
@@ -44,11 +45,12 @@ use Rattle.device.specs.declared.TotBlock.{TotBlock}
 use Rattle.device.specs.declared.AoBlock.{AoBlock}
 use Rattle.device.specs.declared.DiBlock.{DiBlock}
 use Rattle.device.specs.declared.DoutBlock.{DoutBlock}
-use Rattle.device.specs.Stored.{scaleOf, pairOf as pairWritten, ainSettings, totSettings, aoSettings, revAfter, enteredBy, operatorBy, ainWritten, totWritten, aoWritten, storedIn}
+use Rattle.device.specs.Stored.{scaleOf, pairOf as pairWritten, discretePair, ainSettings, totSettings, aoSettings, diSettings, doutSettings, revAfter, enteredBy, operatorBy, ainWritten, totWritten, aoWritten, diWritten, doutWritten, storedIn}
 use Rattle.device.specs.Factory.{ainBy, totBy, aoBy, diBy, doutBy, factoryDevice}
 use Rattle.history.specs.Past.{History, start, _▷_, count, countSince, since, latest, told, carried}
 use Rattle.history.specs.Calls.{Fed, Seen, Event, wrote, words}
 use Rattle.history.specs.Rules.{pair, statics, outputs, among, defaults, orZeros, orElse, stored, wordsTo, never, code, float, scale, table, isStaticWrite, stRev, actual, lastOut, entersMan, handed, man, operator, filterValue, Sensor, lastUsable, analogIn, discreteIn, Alarm, hiHi, hi, lo, loLo, stands, rateValue, total, given, Drive, analogOut, discreteOut, discrete, outNumber, came, setpoint, silence, ifs, isTick, isStart, onTick, pairOn, holds, isUsable, isIfs, isUsableOn, isIfsOn, raises, clears}
+use Rattle.history.specs.ManLaws.{Operated, operated-each}
 use Rattle.history.proofs.Truth.{and-true, and-false}
 use Rattle.history.proofs.Lists.{static-same}
 
@@ -174,7 +176,7 @@ deviceOf h = record { «write_locking» = code h 0 18; ain = ainBlock h; tot = t
 -- ---- the factory call
 
 pub ruled-start : factoryDevice ≡ deviceOf start
-unfolding deviceOf factoryDevice ainBy totBy aoBy diBy doutBy Table.defaultOf Table.defaultIn Table.rowsOf Table.physical Table.ain Table.tot Table.ao Table.di Table.dout defaults stored latest table ainAt ainIn totAt totIn aoAt aoIn diAt diIn doutAt doutIn stRev count given actual operator filterValue lastUsable rateValue carried alarmsAt stands since Rattle.history.specs.Rules.total inputAt came setpoint silence countSince ifs freshState started noTelegrams Dout.freshState Dout.started Dout.noTelegrams emptied
+unfolding deviceOf factoryDevice ainBy totBy aoBy diBy doutBy Table.defaultOf Table.defaultIn Table.rowsOf Table.physical Table.ain Table.tot Table.ao Table.di Table.dout Table.discrete defaults stored latest table ainAt ainIn totAt totIn aoAt aoIn diAt diIn doutAt doutIn stRev count given actual operator filterValue lastUsable rateValue carried alarmsAt stands since Rattle.history.specs.Rules.total inputAt came setpoint silence countSince ifs freshState started noTelegrams Dout.freshState Dout.started Dout.noTelegrams emptied
 ruled-start = refl
 
 -- ---- what leaves a rule's value as it was
@@ -288,6 +290,10 @@ module _ (h : History Event) (e : Event) (still : Still e) where
   ao-left p sp rcasIn o u v = λ i. record { out = given-left 3 i; mode = actual-left 3 i; operator = o i; sp = u i; «rcas_in» = v i }
 
 -- ---- an accepted write
+
+-- what is accepted of an output: its status is a byte, and a discrete value is one
+abbrev pub Written : ℕ → ℕ → ℕ → Type 0
+Written B a b = (T (ltb 3 B) → a ≤ 255) × (b ≤ 255)
 
 -- a function goes into both cases
 pub cond-ap : {X A : Type 0} (g : X → A) (p : Bool) (x y : X) → g (cond p x y) ≡ cond p (g x) (g y)
@@ -430,6 +436,48 @@ module _ (h : History Event) (block number a b : ℕ) where
   unfolding aoAt
   ao-untouched e = λ i. aoOf (λ N. untouched 3 N e i)
 
+  di-written : eqb block 4 ≡ true → diSettings (diAt h) number a ≡ diAt then
+  unfolding diSettings diAt
+  di-written e = λ i. record {
+    target = written codeIn 4 5 e i;
+    invert = written codeIn 4 15 e i;
+    «fsafe_type» = written codeIn 4 20 e i;
+    «fsafe_val_d» = written codeIn 4 21 e i;
+  }
+
+  di-untouched : eqb block 4 ≡ false → diAt h ≡ diAt then
+  unfolding diAt
+  di-untouched e = λ i. diOf (λ N. untouched 4 N e i)
+
+  di-operator : (p : Discrete) → p ≡ discrete (operator 4 then) → Di.operatedState (diIn h) p ≡ diIn then
+  di-operator p e = di-left h (wrote block number a b) (λ A f s o. refl) p e
+
+  di-still : operator 4 h ≡ operator 4 then → diIn h ≡ diIn then
+  unfolding diIn
+  di-still e = di-operator (discrete (operator 4 h)) (ap discrete e)
+
+  dout-written : eqb block 5 ≡ true → doutSettings (doutAt h) number a ≡ doutAt then
+  unfolding doutSettings doutAt
+  dout-written e = λ i. record {
+    target = written codeIn 5 5 e i;
+    invert = written codeIn 5 15 e i;
+    «fsafe_type» = written codeIn 5 20 e i;
+    «fsafe_val_d» = written codeIn 5 21 e i;
+    «fsafe_time» = written codeIn 5 22 e i;
+  }
+
+  dout-untouched : eqb block 5 ≡ false → doutAt h ≡ doutAt then
+  unfolding doutAt
+  dout-untouched e = λ i. doutOf (λ N. untouched 5 N e i)
+
+  dout-operator : (p : Discrete) → p ≡ discrete (operator 5 then) → Dout.operatedBy (doutIn h) p ≡ doutIn then
+  unfolding doutIn Dout.operatedBy
+  dout-operator p e = dout-left h (wrote block number a b) (λ A f s o. refl) p (doutInput 2 h) (doutInput 3 h) e (ap Dout.inputFrom (input-same discreteOut 2)) (ap Dout.inputFrom (input-same discreteOut 3))
+
+  dout-still : operator 5 h ≡ operator 5 then → doutIn h ≡ doutIn then
+  unfolding doutIn Dout.operatedBy
+  dout-still e = dout-operator (discrete (operator 5 h)) (ap discrete e)
+
   ao-operator : (p : Pair) → p ≡ operator 3 then → operatedBy (aoIn h) p ≡ aoIn then
   unfolding aoIn operatedBy
   ao-operator p e = ao-left h (wrote block number a b) (λ A f s o. refl) p (aoInput 0 h) (aoInput 1 h) e (ap inputFrom (input-same analogOut 0)) (ap inputFrom (input-same analogOut 1))
@@ -438,46 +486,65 @@ module _ (h : History Event) (block number a b : ℕ) where
   unfolding aoIn operatedBy
   ao-still e = ao-operator (operator 3 h) e
 
-  -- ---- the whole device, where block 0's write is one of the lock, a written status a byte, and the pairs last given are those read
-  module _ (only : eqb block 0 ≡ true → eqb number 18 ≡ true) (small : (B : ℕ) → eqb block B ≡ true → T (among (outputs B) number) → b ≤ 255) (ainLast : given 1 h ≡ lastOut 1 h) (aoLast : given 3 h ≡ lastOut 3 h) where
-    byte : b ≤ 255 → b % 256 ≡ b
-    byte s = omega arith
-
-    -- the pair written, where an output was
-    pair-written : (B : ℕ) → eqb block B ≡ true → eqb number (outNumber B) ≡ true → T (among (outputs B) number) → pairWritten a b ≡ operator B then
-    pair-written B e f t = (λ i. pair a (byte (small B e t) i)) ∙ operated B true (enters B) e f refl
-
+  -- ---- the whole device, where block 0's write is one of the lock, a written output is a value of its block with a byte for a status, and the pairs last
+  -- given are those read
+  module _
+      (only : eqb block 0 ≡ true → eqb number 18 ≡ true) (small : (B : ℕ) → eqb block B ≡ true → T (among (outputs B) number) → Written B a b)
+      (last : (B : ℕ) → Operated B → given B h ≡ lastOut B h) where
     is : (q : Bool) → q ≡ true → T (q || false)
     is true e = tt
     is false e = absurd (true≢false (sym e))
 
-    -- what a write makes of it in AIN and AO
-    pair-after : (B : ℕ) → eqb B 2 ≡ false → given B h ≡ lastOut B h → eqb block B ≡ true → (eqb number (outNumber B) ≡ true → T (among (outputs B) number))
-        → operatorBy (outNumber B) number a b (code h B 5) (given B h) (operator B h) ≡ operator B then
-    unfolding operatorBy enteredBy Common.operatorAfter
-    pair-after B n last e t = go (eqb number (outNumber B)) refl
-      where
-        same : (s m w x : Bool) → x ≡ false → cond s (cond (m && not w) (lastOut B h) (operator B h)) (operator B h) ≡ cond (s && (not x && not w && m)) (lastOut B h) (operator B h)
-        same s m w true y = absurd (true≢false y)
-        same false m w false y = refl
-        same true true true false y = refl
-        same true true false false y = refl
-        same true false true false y = refl
-        same true false false false y = refl
+    -- what a write makes of the operator's pair, over the type of the block's pair: `form` is the pair by its words, `made` what a write makes of them
+    module _ {X : Type 0} (form : Pair → X) (made : ℕ → ℕ → X) (B : ℕ) (o : Operated B) (e : eqb block B ≡ true) (same-words : eqb number (outNumber B) ≡ true → made a b ≡ form (pair a b)) where
+      pair-after : operatorBy made (outNumber B) number a b (code h B 5) (form (given B h)) (form (operator B h)) ≡ form (operator B then)
+      unfolding operatorBy enteredBy Common.operatorAfter
+      pair-after = go (eqb number (outNumber B)) refl
+        where
+          same : (s m w x : Bool) → x ≡ false → cond s (cond (m && not w) (form (lastOut B h)) (form (operator B h))) (form (operator B h)) ≡ form (cond (s && (not x && not w && m)) (lastOut B h) (operator B h))
+          same s m w true y = absurd (true≢false y)
+          same false m w false y = refl
+          same true true true false y = refl
+          same true true false false y = refl
+          same true false true false y = refl
+          same true false false false y = refl
 
-        go : (q : Bool) → eqb number (outNumber B) ≡ q → cond q (pairWritten a b) (cond (eqb number 5) (cond (eqb a man && not (eqb (code h B 5) man)) (given B h) (operator B h)) (operator B h)) ≡ operator B then
-        go true f = pair-written B e f (t f)
-        go false f = ap (λ (p : Pair). cond (eqb number 5) (cond (eqb a man && not (eqb (code h B 5) man)) p (operator B h)) (operator B h)) last
-            ∙ same (eqb number 5) (eqb a man) (eqb (code h B 5) man) (eqb B 2) n ∙ operated B false (enters B) e f refl
+          not-tot : eqb B 2 ≡ false
+          not-tot = operated-each (λ (x : ℕ). eqb x 2 ≡ false) refl refl refl refl B o
+
+          go : (q : Bool) → eqb number (outNumber B) ≡ q
+              → cond q (made a b) (cond (eqb number 5) (cond (eqb a man && not (eqb (code h B 5) man)) (form (given B h)) (form (operator B h))) (form (operator B h))) ≡ form (operator B then)
+          go true f = same-words f ∙ ap form (operated B true (enters B) e f refl)
+          go false f = ap (λ (p : Pair). cond (eqb number 5) (cond (eqb a man && not (eqb (code h B 5) man)) (form p) (form (operator B h))) (form (operator B h))) (last B o)
+              ∙ same (eqb number 5) (eqb a man) (eqb (code h B 5) man) (eqb B 2) not-tot ∙ ap form (operated B false (enters B) e f refl)
+
+    -- the words of an output are the pair written
+    byte : (n : ℕ) → n ≤ 255 → n % 256 ≡ n
+    byte n s = omega arith
+
+    pair-is : (B : ℕ) → eqb block B ≡ true → T (among (outputs B) number) → pairWritten a b ≡ pair a b
+    pair-is B e t = λ i. pair a (byte b (small B e t .1) i)
+
+    discrete-is : (B : ℕ) → (Written B a b → a ≤ 255) → eqb block B ≡ true → T (among (outputs B) number) → discretePair a b ≡ discrete (pair a b)
+    discrete-is B first e t = λ i. record { value = byte a (first (small B e t)) i; status = byte b (small B e t .1) i }
+
+    abbrev as-it-is : Pair → Pair
+    as-it-is p = p
 
     ain-then : (p : Bool) → eqb block 1 ≡ p → cond p (ainWritten (ainBlock h) number a b) (ainBlock h) ≡ ainBlock then
     unfolding ainWritten ainAt ainIn table latest
-    ain-then true e = λ i. record { settings = ain-written e i; state = ain-operator _ (pair-after 1 refl ainLast e (unfold outputs in is (eqb number 10))) i; «st_rev» = rev-wrote 1 true e i; table = tableOf (table h) }
+    ain-then true e = λ i. record {
+      settings = ain-written e i;
+      state = ain-operator _ (pair-after as-it-is pairWritten 1 (inl refl) e (λ f. pair-is 1 e (unfold outputs in is (eqb number 10) f))) i;
+      «st_rev» = rev-wrote 1 true e i;
+      table = tableOf (table h);
+    }
     ain-then false e = λ i. record { settings = ain-untouched e i; state = ain-still (unoperated 1 e) i; «st_rev» = rev-wrote 1 false e i; table = tableOf (table h) }
 
     tot-state : eqb block 2 ≡ true → (q : Bool) → eqb number 10 ≡ q → cond q (writtenState (totIn h) a (b % 256)) (totIn h) ≡ totIn then
     unfolding totIn
-    tot-state e true f = tot-operator (thousandthsOf (floatOf a)) (b % 256) (total-wrote true true e f) (λ i. pair-written 2 e f (unfold outputs in is (eqb number 10) f) i .status)
+    tot-state e true f = tot-operator (thousandthsOf (floatOf a)) (b % 256) (total-wrote true true e f)
+        (byte b (small 2 e (unfold outputs in is (eqb number 10) f) .1) ∙ (λ i. operated 2 true (enters 2) e f refl i .status))
     tot-state e false f = tot-still true false e f (operated 2 false false e f (and-false (eqb number 5)))
 
     tot-then : (p : Bool) → eqb block 2 ≡ p → cond p (totWritten (totBlock h) number a b) (totBlock h) ≡ totBlock then
@@ -487,9 +554,38 @@ module _ (h : History Event) (block number a b : ℕ) where
 
     ao-then : (p : Bool) → eqb block 3 ≡ p → cond p (aoWritten (aoBlock h) number a b) (aoBlock h) ≡ aoBlock then
     unfolding aoWritten aoAt aoIn
-    ao-then true e = λ i. record { settings = ao-written e i; state = ao-operator _ (pair-after 3 refl aoLast e (unfold outputs in is (eqb number 37))) i; «st_rev» = rev-wrote 3 true e i }
+    ao-then true e = λ i. record {
+      settings = ao-written e i;
+      state = ao-operator _ (pair-after as-it-is pairWritten 3 (inr (inl refl)) e (λ f. pair-is 3 e (unfold outputs in is (eqb number 37) f))) i;
+      «st_rev» = rev-wrote 3 true e i;
+    }
     ao-then false e = λ i. record { settings = ao-untouched e i; state = ao-still (unoperated 3 e) i; «st_rev» = rev-wrote 3 false e i }
+
+    di-then : (p : Bool) → eqb block 4 ≡ p → cond p (diWritten (diBlock h) number a b) (diBlock h) ≡ diBlock then
+    unfolding diWritten diAt diIn
+    di-then true e = λ i. record {
+      settings = di-written e i;
+      state = di-operator _ (pair-after discrete discretePair 4 (inr (inr (inl refl))) e (λ f. discrete-is 4 (λ w. w .0 tt) e (unfold outputs in is (eqb number 10) f))) i;
+      «st_rev» = rev-wrote 4 true e i;
+    }
+    di-then false e = λ i. record { settings = di-untouched e i; state = di-still (unoperated 4 e) i; «st_rev» = rev-wrote 4 false e i }
+
+    dout-then : (p : Bool) → eqb block 5 ≡ p → cond p (doutWritten (doutBlock h) number a b) (doutBlock h) ≡ doutBlock then
+    unfolding doutWritten doutAt doutIn
+    dout-then true e = λ i. record {
+      settings = dout-written e i;
+      state = dout-operator _ (pair-after discrete discretePair 5 (inr (inr (inr refl))) e (λ f. discrete-is 5 (λ w. w .0 tt) e (unfold outputs in is (eqb number 10) f))) i;
+      «st_rev» = rev-wrote 5 true e i;
+    }
+    dout-then false e = λ i. record { settings = dout-untouched e i; state = dout-still (unoperated 5 e) i; «st_rev» = rev-wrote 5 false e i }
 
     pub ruled-wrote : storedIn (deviceOf h) block number a b ≡ deviceOf then
     unfolding storedIn deviceOf
-    ruled-wrote = λ i. record { «write_locking» = lock-wrote only i; ain = ain-then (eqb block 1) refl i; tot = tot-then (eqb block 2) refl i; ao = ao-then (eqb block 3) refl i }
+    ruled-wrote = λ i. record {
+      «write_locking» = lock-wrote only i;
+      ain = ain-then (eqb block 1) refl i;
+      tot = tot-then (eqb block 2) refl i;
+      ao = ao-then (eqb block 3) refl i;
+      di = di-then (eqb block 4) refl i;
+      dout = dout-then (eqb block 5) refl i;
+    }

@@ -43,7 +43,7 @@ Sound h = (block number : ℕ) → T (sound (entryOf block number) (stored h blo
 -- ---- the defaults
 
 default-sound : (block number : ℕ) → T (sound (entryOf block number) (orZeros (defaults block) number))
-unfolding defaults entryOf entryIn Table.physical Table.ain Table.tot Table.ao Table.di Table.dout allowsOf allowedScale le ofBits ofInt ne
+unfolding defaults entryOf entryIn Table.physical Table.ain Table.tot Table.ao Table.di Table.dout Table.discrete allowsOf allowedScale le ofBits ofInt ne
 default-sound block number =
     by-rows
     (λ number e. true)

@@ -1,35 +1,36 @@
 -- The device by the rules over a telegram and a warm start. Assumes nothing.
-use Prim.Native.Nat.{ℕ, _<_, _≤_, min}
+use Prim.Native.Nat.{ℕ, zero, suc, _<_, min}
 use native.Mathlib.Omega.{arith}
-use mathlib.Core.Path.{_≡_, refl, sym, ap, _∙_, subst}
-use mathlib.Core.Bool.{Bool, true, false, not, _&&_, _||_, cond, true≢false}
-use mathlib.Core.Logic.{_⊎_, inl, inr}
+use mathlib.Core.Path.{_≡_, refl, sym, ap, _∙_}
+use mathlib.Core.Bool.{Bool, true, false, not, _&&_, _||_, cond}
 use mathlib.Core.List.{List}
 use mathlib.Core.Option.{none, some}
 use lib.Dec.{eqb, ltb}
-use lib.Ieee.Scale.{finite}
+use lib.Ieee.{Float}
 use lib.ListN.{length, getD}
-use borrow.Author.Tests.{eqb-true, eqb-false, ltb-false}
-use Rattle.numbers.specs.Floats.{floatOf}
 use Rattle.linearisation.specs.Table.{tableOf}
 use Rattle.wire.specs.declared.Pair.{Pair}
+use Rattle.wire.specs.declared.Discrete.{Discrete}
 use Rattle.wire.specs.declared.Received.{Received}
-use Rattle.wire.specs.declared.Refusal.the-variants.{NoSuchInput, WrongLength}
-use Rattle.wire.specs.Bytes.{pairOf, wordOf}
+use Rattle.wire.specs.declared.DiscreteReceived.{DiscreteReceived}
+use Rattle.wire.specs.Bytes.{pairOf, wordOf, discreteOf}
 use Rattle.blocks.specs.Common as Common
-use Rattle.ao.specs.declared.Input.{Input as Setpoint}
+use Rattle.blocks.specs.FailSafe.{InputOf, usable, initiates, afterTelegram, emptied}
+use Rattle.blocks.specs.Output.{telegramBy}
+use Rattle.blocks.specs.Laws.{usable-means, initiates-means, usable-excludes}
 use Rattle.ao.specs.declared.State.{State as AoState}
-use Rattle.ao.specs.FailSafe.{InputOf, usable, initiates, afterTelegram, emptied}
 use Rattle.ao.specs.State.{inputFrom, noTelegrams, started, warmStarted as aoWarmStarted}
-use Rattle.ao.specs.Telegram.{inputAfter, takenOn, receivedOn}
+use Rattle.ao.specs.Telegram.{inputAfter, takenOn}
 use Rattle.ao.specs.Telegram as Ao
-use Rattle.ao.specs.Laws.{usable-means, initiates-means, usable-excludes}
+use Rattle.dout.specs.declared.State.{State as DoutState}
+use Rattle.dout.specs.State as Dout
+use Rattle.dout.specs.Telegram as Sluice
 use Rattle.device.specs.declared.Device.{Device}
 use Rattle.device.specs.Calls.{telegramOf, warmStarted}
 use Rattle.history.specs.Past.{History, _▷_, count, countSince, since, told, latest, carried}
 use Rattle.history.specs.Calls.{Event, telegram, warmed}
-use Rattle.history.specs.Rules.{pair, orElse, Drive, analogOut, setpointOn, stored, code, table, outOfService, stRev, actual, operator, filterValue, lastUsable, Alarm, hiHi, hi, lo, loLo, stands, raises, clears, rateValue, total, given, held, came, setpoint, silence, ifs, isTick, isStart, pairOn, holds, isUsable, isIfs, isUsableOn, isIfsOn}
-use Rattle.history.proofs.Ruled.{inputAt, aoInput, alarmsAt, ainAt, totAt, aoAt, ainIn, totIn, aoIn, deviceOf, ain-left, tot-left, ao-left, input-still}
+use Rattle.history.specs.Rules.{pair, orElse, Drive, analogOut, discreteOut, discrete, fiveAs, twoAs, telegramBytes, setpointOn, stored, code, table, outOfService, stRev, actual, operator, filterValue, lastUsable, Alarm, hiHi, hi, lo, loLo, stands, raises, clears, rateValue, total, given, held, came, setpoint, silence, ifs, isTick, isStart, pairOn, holds, isUsable, isIfs, isUsableOn, isIfsOn}
+use Rattle.history.proofs.Ruled.{inputAt, byteOf, alarmsAt, ainAt, totAt, aoAt, diAt, doutAt, ainIn, totIn, aoIn, diIn, doutIn, ainBlock, totBlock, diBlock, deviceOf, ain-left, tot-left, ao-left, di-left, dout-left, input-still}
 use Rattle.history.proofs.Truth.{and-true, and-false}
 
 -- an input by its four parts
@@ -90,7 +91,7 @@ module _ {A : Type 0} (d : Drive A) (input : ℕ) (h : History Event) (e : Event
 
 -- ---- a telegram
 
--- five bytes are a pair
+-- five bytes are a pair, and so are two
 five : List ℕ → Pair
 five bytes = record { bits = wordOf (getD bytes 0 0) (getD bytes 1 0) (getD bytes 2 0) (getD bytes 3 0); status = getD bytes 4 0 }
 
@@ -98,80 +99,95 @@ five-is : (bytes : List ℕ) → eqb (length bytes) 5 ≡ true → pairOf bytes 
 unfolding pairOf five
 five-is bytes e = rw e
 
-module _ (h : History Event) (bytes : List ℕ) (l : eqb (length bytes) 5 ≡ true) where
-  -- what a telegram leaves, and what is to be shown of AO's state
-  module _ (input : ℕ) where
-    abbrev then : History Event
-    then = h ▷ telegram input bytes
+two : List ℕ → Discrete
+two bytes = record { value = getD bytes 0 0; status = getD bytes 1 0 }
 
-    abbrev state : AoState
-    state = Ao.telegramOf (aoIn h) input bytes .state
+two-is : (bytes : List ℕ) → eqb (length bytes) 2 ≡ true → discreteOf bytes ≡ DiscreteReceived.Value (two bytes)
+unfolding discreteOf two
+two-is bytes e = rw e
 
-    ain-same : ainIn h ≡ ainIn then
-    unfolding ainIn operator latest
-    ain-same = ain-left h (telegram input bytes) (λ A f s o. refl) (operator 1 h) refl
+module _ (h : History Event) (input : ℕ) (bytes : List ℕ) where
+  abbrev then : History Event
+  then = h ▷ telegram input bytes
 
-    tot-same : totIn h ≡ totIn then
-    unfolding totIn operator latest total carried
-    tot-same = tot-left h (telegram input bytes) (λ A f s o. refl) (total h) (operator 2 h .status) refl refl
+  -- the input that it came on, and any other
+  module _ {A : Type 0} (d : Drive A) (i : ℕ) where
+    taken : (p : Pair) → eqb input i ≡ true → d .received bytes ≡ some p → afterTelegram (p .status) (d .fine (p .bits)) (d .value (p .bits)) (inputAt d i h) ≡ inputAt d i then
+    taken p e r = sym (input-heard d i h (telegram input bytes) p (rw e r) refl refl)
 
-    pub heard : state ≡ aoIn then → telegramOf (deviceOf h) input bytes .device ≡ deviceOf then
-    unfolding telegramOf deviceOf stored latest table ainAt totAt aoAt stRev count
-    heard s = λ i. record {
-      «write_locking» = code h 0 18;
-      ain = record { settings = ainAt h; state = ain-same i; «st_rev» = stRev h 1; table = tableOf (table h) };
-      tot = record { settings = totAt h; state = tot-same i; «st_rev» = stRev h 2 };
-      ao = record { settings = aoAt h; state = s i; «st_rev» = stRev h 3 };
-    }
+    other : eqb input i ≡ false → inputAt d i h ≡ inputAt d i then
+    other e = sym (input-still d i (telegram input bytes) (rw e) h refl refl)
 
-    -- AO's state with its inputs after it
-    abbrev inputs : Setpoint → Setpoint → AoState
-    inputs sp rcasIn = record { out = given 3 h; mode = actual 3 h; operator = operator 3 h; sp = sp; «rcas_in» = rcasIn }
+  -- what it leaves of each block
+  ain-same : ainIn h ≡ ainIn then
+  unfolding ainIn operator latest
+  ain-same = ain-left h (telegram input bytes) (λ A f s o. refl) (operator 1 h) refl
 
-    listened : (sp rcasIn : Setpoint) → sp ≡ aoInput 0 then → rcasIn ≡ aoInput 1 then → inputs sp rcasIn ≡ aoIn then
-    unfolding operator latest
-    listened sp rcasIn e f = ao-left h (telegram input bytes) (λ A f s o. refl) (operator 3 h) sp rcasIn refl e f
+  tot-same : totIn h ≡ totIn then
+  unfolding totIn operator latest total carried
+  tot-same = tot-left h (telegram input bytes) (λ A f s o. refl) (total h) (operator 2 h .status) refl refl
 
-    -- the input that it came on, and the other one
-    taken : (i : ℕ) → eqb input i ≡ true → inputAfter (aoInput i h) (five bytes) ≡ aoInput i then
-    unfolding inputAfter
-    taken i e = ap inputFrom (sym (input-heard analogOut i h (telegram input bytes) (five bytes) (rw (e, five-is bytes l)) refl refl))
+  di-same : diIn h ≡ diIn then
+  unfolding diIn operator latest
+  di-same = di-left h (telegram input bytes) (λ A f s o. refl) (discrete (operator 4 h)) refl
 
-    other : (i : ℕ) → eqb input i ≡ false → aoInput i h ≡ aoInput i then
-    other i e = ap inputFrom (sym (input-still analogOut i (telegram input bytes) (rw e) h refl refl))
+  ao-by : (sp rcasIn : InputOf Float) → sp ≡ inputAt analogOut 0 then → rcasIn ≡ inputAt analogOut 1 then
+      → record { out = given 3 h; mode = actual 3 h; operator = operator 3 h; sp = inputFrom sp; «rcas_in» = inputFrom rcasIn } ≡ aoIn then
+  unfolding operator latest
+  ao-by sp rcasIn e f = ao-left h (telegram input bytes) (λ A f s o. refl) (operator 3 h) (inputFrom sp) (inputFrom rcasIn) refl (ap inputFrom e) (ap inputFrom f)
 
-  pub ruled-telegram : (input : ℕ) → input < 2 → telegramOf (deviceOf h) input bytes .device ≡ deviceOf (h ▷ telegram input bytes)
-  unfolding Ao.telegramOf takenOn
-  ruled-telegram input small = go (eqb input 0) refl
-    where
-      second : (n : ℕ) → n < 2 → (n ≡ 0 → ⊥) → 1 ≡ n
-      second n a b = omega arith
+  dout-by : (sp rcasIn : InputOf ℕ) → sp ≡ inputAt discreteOut 2 then → rcasIn ≡ inputAt discreteOut 3 then
+      → record { out = discrete (given 5 h); mode = actual 5 h; operator = discrete (operator 5 h); sp = Dout.inputFrom sp; «rcas_in» = Dout.inputFrom rcasIn } ≡ doutIn then
+  unfolding operator latest
+  dout-by sp rcasIn e f = dout-left h (telegram input bytes) (λ A f s o. refl) (discrete (operator 5 h)) (Dout.inputFrom sp) (Dout.inputFrom rcasIn) refl (ap Dout.inputFrom e) (ap Dout.inputFrom f)
 
-      is : (i : ℕ) → receivedOn (aoIn h) i (pairOf bytes) .state ≡ takenOn (aoIn h) i (five bytes)
-      is i = ap (λ (r : Received). receivedOn (aoIn h) i r .state) (five-is bytes l)
+  -- one on the other block's inputs
+  ao-same : eqb input 0 ≡ false → eqb input 1 ≡ false → aoIn h ≡ aoIn then
+  unfolding aoIn
+  ao-same e f = ao-by (inputAt analogOut 0 h) (inputAt analogOut 1 h) (other analogOut 0 e) (other analogOut 1 f)
 
-      on-sp : takenOn (aoIn h) 0 (five bytes) ≡ aoIn (h ▷ telegram 0 bytes)
-      on-sp = unfold aoIn in listened 0 (inputAfter (aoInput 0 h) (five bytes)) (aoInput 1 h) (taken 0 0 refl) (other 0 1 refl)
+  dout-same : eqb input 2 ≡ false → eqb input 3 ≡ false → doutIn h ≡ doutIn then
+  unfolding doutIn
+  dout-same e f = dout-by (inputAt discreteOut 2 h) (inputAt discreteOut 3 h) (other discreteOut 2 e) (other discreteOut 3 f)
 
-      on-rcas : takenOn (aoIn h) 1 (five bytes) ≡ aoIn (h ▷ telegram 1 bytes)
-      on-rcas = unfold aoIn in listened 1 (aoInput 0 h) (inputAfter (aoInput 1 h) (five bytes)) (other 1 0 refl) (taken 1 1 refl)
+  -- the whole device, by AO's and DO's states after it
+  whole : (x : AoState) (y : DoutState) → x ≡ aoIn then → y ≡ doutIn then → record {
+    «write_locking» = code h 0 18;
+    ain = ainBlock h;
+    tot = totBlock h;
+    ao = record { settings = aoAt h; state = x; «st_rev» = stRev h 3 };
+    di = diBlock h;
+    dout = record { settings = doutAt h; state = y; «st_rev» = stRev h 5 };
+  } ≡ deviceOf then
+  unfolding deviceOf stored latest table ainAt totAt aoAt diAt doutAt stRev count
+  whole x y e f = λ i. record {
+    «write_locking» = code h 0 18;
+    ain = record { settings = ainAt h; state = ain-same i; «st_rev» = stRev h 1; table = tableOf (table h) };
+    tot = record { settings = totAt h; state = tot-same i; «st_rev» = stRev h 2 };
+    ao = record { settings = aoAt h; state = e i; «st_rev» = stRev h 3 };
+    di = record { settings = diAt h; state = di-same i; «st_rev» = stRev h 4 };
+    dout = record { settings = doutAt h; state = f i; «st_rev» = stRev h 5 };
+  }
 
-      go : (b : Bool) → eqb input 0 ≡ b → telegramOf (deviceOf h) input bytes .device ≡ deviceOf (h ▷ telegram input bytes)
-      go true e = subst (λ (i : ℕ). telegramOf (deviceOf h) i bytes .device ≡ deviceOf (h ▷ telegram i bytes)) (sym (eqb-true input 0 e)) (heard 0 (is 0 ∙ on-sp))
-      go false e = subst (λ (i : ℕ). telegramOf (deviceOf h) i bytes .device ≡ deviceOf (h ▷ telegram i bytes)) (second input small (eqb-false input 0 e)) (heard 1 (is 1 ∙ on-rcas))
-
--- a refused telegram leaves the device
-pub telegram-refused : (d : Device) (input : ℕ) (bytes : List ℕ) → (ltb 1 input ≡ true) ⊎ (eqb (length bytes) 5 ≡ false) → telegramOf d input bytes .device ≡ d
-unfolding telegramOf Ao.telegramOf pairOf
-telegram-refused d input bytes (inl e) = rw e
-telegram-refused d input bytes (inr e) = rw e (ap with-state (go (ltb 1 input)))
+-- an accepted telegram: each of the four inputs
+pub ruled-telegram : (h : History Event) (bytes : List ℕ) (input : ℕ) → input < 4 → eqb (length bytes) (telegramBytes input) ≡ true
+    → telegramOf (deviceOf h) input bytes .device ≡ deviceOf (h ▷ telegram input bytes)
+ruled-telegram h bytes = go
   where
-    with-state : AoState → Device
-    with-state st = record { «write_locking» = d .«write_locking»; ain = d .ain; tot = d .tot; ao = record { settings = d .ao .settings; state = st; «st_rev» = d .ao .«st_rev» } }
+    on-ao : (input : ℕ) → ltb 1 input ≡ false → eqb (length bytes) 5 ≡ true → eqb input 2 ≡ false → eqb input 3 ≡ false → takenOn (aoIn h) input (five bytes) ≡ aoIn (h ▷ telegram input bytes)
+        → telegramOf (deviceOf h) input bytes .device ≡ deviceOf (h ▷ telegram input bytes)
+    on-ao input n l e f s = unfold telegramOf Ao.telegramOf telegramBy deviceOf in rw (n, five-is bytes l) (whole h input bytes (takenOn (aoIn h) input (five bytes)) (doutIn h) s (dout-same h input bytes e f))
 
-    go : (p : Bool) → cond p (Ao.refusedWith (d .ao .state) NoSuchInput) (receivedOn (d .ao .state) input (Received.Refused WrongLength)) .state ≡ d .ao .state
-    go true = refl
-    go false = refl
+    on-dout : (input : ℕ) → ltb 1 input ≡ true → Sluice.lacking input ≡ false → eqb (length bytes) 2 ≡ true → eqb input 0 ≡ false → eqb input 1 ≡ false
+        → Sluice.takenOn (doutIn h) input (two bytes) ≡ doutIn (h ▷ telegram input bytes) → telegramOf (deviceOf h) input bytes .device ≡ deviceOf (h ▷ telegram input bytes)
+    on-dout input n k l e f s = unfold telegramOf Sluice.telegramOf telegramBy deviceOf in rw (n, k, two-is bytes l) (whole h input bytes (aoIn h) (Sluice.takenOn (doutIn h) input (two bytes)) (ao-same h input bytes e f) s)
+
+    go : (input : ℕ) → input < 4 → eqb (length bytes) (telegramBytes input) ≡ true → telegramOf (deviceOf h) input bytes .device ≡ deviceOf (h ▷ telegram input bytes)
+    go zero s l = on-ao 0 refl l refl refl (unfold takenOn inputAfter aoIn in ao-by h 0 bytes _ _ (taken h 0 bytes analogOut 0 (five bytes) refl (ap fiveAs (five-is bytes l))) (other h 0 bytes analogOut 1 refl))
+    go (suc zero) s l = on-ao 1 refl l refl refl (unfold takenOn inputAfter aoIn in ao-by h 1 bytes _ _ (other h 1 bytes analogOut 0 refl) (taken h 1 bytes analogOut 1 (five bytes) refl (ap fiveAs (five-is bytes l))))
+    go (suc (suc zero)) s l = on-dout 2 refl refl l refl refl (unfold Sluice.takenOn Sluice.inputAfter doutIn in dout-by h 2 bytes _ _ (taken h 2 bytes discreteOut 2 _ refl (ap twoAs (two-is bytes l))) (other h 2 bytes discreteOut 3 refl))
+    go (suc (suc (suc zero))) s l = on-dout 3 refl refl l refl refl (unfold Sluice.takenOn Sluice.inputAfter doutIn in dout-by h 3 bytes _ _ (other h 3 bytes discreteOut 2 refl) (taken h 3 bytes discreteOut 3 _ refl (ap twoAs (two-is bytes l))))
+    go (suc (suc (suc (suc n)))) s l = absurd (omega arith)
 
 -- ---- a warm start
 
@@ -194,7 +210,7 @@ module _ (h : History Event) where
     emptied-input = λ i. made (sym no-came i) (d .zero) (silence d input (h ▷ warmed)) (sym none-ifs i)
 
   pub ruled-warm : warmStarted (deviceOf h) ≡ deviceOf (h ▷ warmed)
-  unfolding warmStarted deviceOf aoWarmStarted started noTelegrams stored latest table ainAt totAt aoAt ainIn totIn aoIn stRev count given actual operator filterValue lastUsable rateValue total carried alarmsAt
+  unfolding warmStarted deviceOf aoWarmStarted started noTelegrams Dout.warmStarted Dout.started Dout.noTelegrams stored latest table ainAt totAt aoAt diAt doutAt ainIn totIn aoIn diIn doutIn stRev count given actual operator filterValue lastUsable rateValue total carried alarmsAt
   ruled-warm = λ i. record {
     «write_locking» = code h 0 18;
     ain = record {
@@ -215,5 +231,11 @@ module _ (h : History Event) where
       settings = aoAt h;
       state = record { out = held (given 3 h); mode = outOfService; operator = pair 0 0x4c; sp = inputFrom (emptied-input analogOut 0 i); «rcas_in» = inputFrom (emptied-input analogOut 1 i) };
       «st_rev» = stRev h 3;
+    };
+    di = record { settings = diAt h; state = record { out = discrete (held (given 4 h)); mode = outOfService; last = byteOf none; operator = discrete (pair 0 0x4c) }; «st_rev» = stRev h 4 };
+    dout = record {
+      settings = doutAt h;
+      state = record { out = discrete (held (given 5 h)); mode = outOfService; operator = discrete (pair 0 0x4c); sp = Dout.inputFrom (emptied-input discreteOut 2 i); «rcas_in» = Dout.inputFrom (emptied-input discreteOut 3 i) };
+      «st_rev» = stRev h 5;
     };
   }

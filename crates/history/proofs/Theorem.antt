@@ -1,9 +1,8 @@
 -- The claim holds of every list of calls: the device reached is the device by the rules, by one lemma for each call and one induction over the list. Assumes nothing.
-use Prim.Native.Nat.{ℕ, _<_, _≤_, _^_}
+use Prim.Native.Nat.{ℕ, zero, suc, _<_, _≤_, _^_}
 use native.Mathlib.Omega.{arith}
 use mathlib.Core.Path.{_≡_, refl, sym, ap, _∙_, subst}
 use mathlib.Core.Bool.{Bool, true, false, not, _&&_, _||_, cond}
-use mathlib.Core.Logic.{inl, inr}
 use mathlib.Core.List.{List, [], _∷_}
 use lib.Dec.{T, eqb, leb, leb→le, ltb}
 use lib.IntN.{pos, negsuc}
@@ -11,19 +10,21 @@ use lib.Ieee.{binary32, ofInt}
 use lib.Ieee.Fits.{and-l, and-r}
 use lib.Ieee.Scale.{finite}
 use lib.ListN.{length, getD}
-use borrow.Author.Tests.{eqb-true, ltb-true, ltb-false}
+use borrow.Author.Tests.{eqb-true, ltb-false, lt-ltb, ne-eqb}
 use Rattle.numbers.specs.Floats.{floatOf, within}
 use Rattle.linearisation.specs.Table.{tableOf, hasTable}
 use Rattle.wire.specs.declared.Pair.{Pair}
-use Rattle.wire.specs.Bytes.{pairOf, wordOf}
+use Rattle.wire.specs.declared.Discrete.{Discrete}
+use Rattle.wire.specs.Bytes.{pairOf, wordOf, discreteOf}
 use Rattle.wire.specs.Image.{imageBytes}
 use Rattle.wire.specs.declared.Received.{Received}
-use Rattle.wire.specs.declared.Refusal.the-variants.{NoSuchInput, WrongLength}
+use Rattle.wire.specs.declared.DiscreteReceived.{DiscreteReceived}
+use Rattle.wire.specs.declared.Refusal.the-variants.{WrongLength}
 use Rattle.wire.specs.declared.Answer.{Answer}
 use Rattle.wire.specs.declared.Answer.the-variants.{Accepted, Refused}
+use Rattle.blocks.specs.Output.{receivedBy, telegramBy}
 use Rattle.ao.specs.Telegram as Ao
-use Rattle.ao.specs.declared.Order.{Order}
-use Rattle.parameters.specs.declared.Words.{Words}
+use Rattle.dout.specs.Telegram as Dout
 use Rattle.parameters.specs.declared.Standing.{Standing}
 use Rattle.parameters.specs.declared.Entry.{Entry}
 use Rattle.parameters.specs.declared.Entry.the-variants.{NoBlock, NoParameter, Parameter}
@@ -36,27 +37,28 @@ use Rattle.parameters.specs.Refused.{ground, groundBy}
 use Rattle.parameters.specs.Laws.{by-rows, _also_, takes, accepted-takes}
 use Rattle.device.specs.declared.Device.{Device}
 use Rattle.device.specs.Factory.{factoryDevice}
-use Rattle.device.specs.Read.{readOf, wordsOf, ainWords, aoWords}
-use Rattle.device.specs.Calls.{standingOf, writeBy, writeOf, tickOf, telegramOf, loadOf, warmStarted}
+use Rattle.device.specs.Read.{readOf, wordsOf, ainWords, aoWords, diWords, doutWords, discreteWords}
+use Rattle.device.specs.Calls.{standingOf, writeBy, writeOf, telegramOf, loadOf, warmStarted}
+use Rattle.device.specs.Laws.{refused-telegram}
 use Rattle.history.specs.Past.{History, start, _▷_, latest, carried, Each}
-use Rattle.history.specs.Calls.{Fed, Seen, Call, tick, write, load, warmStart, Event, wrote, loaded, tickedBy, seenOf, fitting, allFit, after, event, reachedFrom, traceFrom, reached, trace}
+use Rattle.history.specs.Calls.{Fed, Seen, Call, tick, write, load, warmStart, Event, ticked, wrote, loaded, tickedBy, seenOf, fitting, allFit, after, event, reachedFrom, traceFrom, reached, trace}
 use Rattle.history.specs.Rules.{outputs, among, stored, code, table, toWrite, toTelegram, toLoad, isAccepted, answer, accepted, given, lastOut, oldOut}
 use Rattle.history.specs.Rules as Rules
 use Rattle.history.specs.Claim.{Tick, answers, Claim}
+use Rattle.history.specs.ManLaws.{Operated, operated-each}
 use Rattle.history.proofs.Lists.{present, standingAt, ground-same}
 use Rattle.history.proofs.Sound.{Sound, sound-start, sound-write}
-use Rattle.history.proofs.Ruled.{ainAt, totAt, aoAt, totIn, deviceOf, ruled-start, ruled-wrote}
-use Rattle.history.proofs.Telegrams.{ruled-telegram, telegram-refused, ruled-warm}
-use Rattle.history.proofs.Loads.{load-answer, load-refused, ruled-load, loaded-came}
-use Rattle.history.proofs.TickStep.{ain-given, ao-given, order-is, good-is, ruled-tick}
+use Rattle.history.proofs.Ruled.{Written, ainAt, totAt, aoAt, diAt, doutAt, totIn, deviceOf, ruled-start, ruled-wrote}
+use Rattle.history.proofs.Telegrams.{ruled-telegram, ruled-warm}
+use Rattle.history.proofs.Loads.{refused-other, load-answer, load-refused, ruled-load, loaded-came}
+use Rattle.history.proofs.TickStep.{ain-given, ao-given, di-given, dout-given, order-is, order-d-is, good-is, good-d-is, ruled-tick}
 use Rattle.history.proofs.ReadBack.{reads-same, image-answer, image-same}
 
 -- what holds of a device and the accepted events
 pub record Holds (d : Device) (h : History Event) : Type 0 where
   pub ruled : d ≡ deviceOf h
-  -- the pair last given is what reads of OUT gave after the tick before
-  pub ainLast : given 1 h ≡ lastOut 1 h
-  pub aoLast : given 3 h ≡ lastOut 3 h
+  -- the pair last given is what reads of OUT or OUT_D gave after the tick before
+  pub last : (B : ℕ) → Operated B → given B h ≡ lastOut B h
   pub sound : Sound h
   -- the device has a table where one came
   pub tabled : hasTable (tableOf (table h)) ≡ Rules.tabled h
@@ -73,20 +75,26 @@ only-lock s block number a b t e = go (eqb number 18) (subst (λ (x : Answer). T
     go true t = refl
     go false t = absurd t
 
--- an accepted status of OUT or TOTAL is a byte
+-- an accepted status of OUT, TOTAL or OUT_D is a byte, and so is OUT_D's value
 module _ (a b : ℕ) where
   abbrev Small : ℕ → ℕ → Entry → Type 0
-  Small block number e = T (takes e a b) → T (among (outputs block) number) → b ≤ 255
+  Small block number e = T (takes e a b) → T (among (outputs block) number) → Written block a b
 
   -- OUT and TOTAL: a value in its range, and a byte; the other rows are not among the outputs
-  byte : (range : Bool) → T (range && leb b 255) → b ≤ 255
-  byte range t = leb→le b 255 (and-r range (leb b 255) t)
+  byte : (range : Bool) → T (range && leb b 255) → (⊥ → a ≤ 255) × (b ≤ 255)
+  byte range t = (λ n. absurd n, leb→le b 255 (and-r range (leb b 255) t))
 
-  no : {A : Type 0} → A → ⊥ → b ≤ 255
+  bytes : {X : Type 0} → T (leb a 1 && leb b 255) → (X → a ≤ 255) × (b ≤ 255)
+  bytes t = (λ x. under (leb→le a 1 (and-l (leb a 1) (leb b 255) t)), leb→le b 255 (and-r (leb a 1) (leb b 255) t))
+    where
+      under : a ≤ 1 → a ≤ 255
+      under s = omega arith
+
+  no : {A W : Type 0} → A → ⊥ → W
   no t m = absurd m
 
   status-small : (block number : ℕ) → T (present number (entryOf block number)) → Small block number (entryOf block number)
-  unfolding outputs allowsOf Table.physical Table.ain Table.tot Table.ao
+  unfolding outputs allowsOf Table.physical Table.ain Table.tot Table.ao Table.di Table.dout Table.discrete
   status-small =
       by-rows
       present
@@ -97,6 +105,8 @@ module _ (a b : ℕ) where
       (no also no also no also no also (λ t m. byte (finite (floatOf a)) t) also no also no also no also no also no also no also no also no also no also no also no also tt)
       (no also no also no also (λ t m. byte (within (ofInt binary32 (negsuc 999_999_999)) (ofInt binary32 (pos 1_000_000_000)) (floatOf a)) t) also no also no also no also no also tt)
       (no also no also no also no also no also no also no also no also (λ t m. byte (finite (floatOf a)) t) also no also tt)
+      (no also no also no also (λ t m. bytes t) also no also no also no also tt)
+      (no also no also no also (λ t m. bytes t) also no also no also no also no also tt)
 
 -- one that is taken has a row
 taken-present : (e : Entry) (number a b : ℕ) → T (takes e a b) → T (present number e)
@@ -106,8 +116,8 @@ taken-present (Parameter class allowed) number a b t = tt
 
 -- what stands, by the device and by the rules
 standing-same : (h : History Event) → hasTable (tableOf (table h)) ≡ Rules.tabled h → standingOf (deviceOf h) ≡ standingAt h
-unfolding standingAt deviceOf ainAt totAt aoAt
-standing-same h e = λ i. record { lock = code h 0 18; ain = code h 1 5; tot = code h 2 5; ao = code h 3 5; table = e i }
+unfolding standingAt deviceOf ainAt totAt aoAt diAt doutAt
+standing-same h e = λ i. record { lock = code h 0 18; ain = code h 1 5; tot = code h 2 5; ao = code h 3 5; di = code h 4 5; dout = code h 5 5; table = e i }
 
 write-same : (h : History Event) (block number a b : ℕ) → hasTable (tableOf (table h)) ≡ Rules.tabled h
     → ground (standingOf (deviceOf h)) block number a b ≡ toWrite h block number a b
@@ -125,9 +135,8 @@ write-ruled h block number a b fit H = go (toWrite h block number a b) refl (wri
         let taken = accepted-takes (standingOf (deviceOf h)) block number a b met in
         rw (f, e) (record {
           ruled = ruled-wrote h block number a b (only-lock (standingOf (deviceOf h)) block number a b met)
-              (λ B e m. status-small a b block number (taken-present (entryOf block number) number a b taken) taken (subst (λ (x : ℕ). T (among (outputs x) number)) (sym (eqb-true block B e)) m)) (H .ainLast) (H .aoLast);
-          ainLast = unfold given lastOut carried in H .ainLast;
-          aoLast = unfold given lastOut carried in H .aoLast;
+              (λ B e m. subst (λ (x : ℕ). Written x a b) (eqb-true block B e) (status-small a b block number (taken-present (entryOf block number) number a b taken) taken (subst (λ (x : ℕ). T (among (outputs x) number)) (sym (eqb-true block B e)) m))) (H .last);
+          last = unfold given lastOut carried in H .last;
           sound = sound-write h (standingOf (deviceOf h)) block number a b (H .sound) (subst (λ (x : Answer). T (isAccepted x)) (sym met) tt) fit;
           tabled = unfold table Rules.tabled latest in H .tabled;
           ticks = (H .ticks, tt);
@@ -136,25 +145,52 @@ write-ruled h block number a b fit H = go (toWrite h block number a b) refl (wri
 
 -- ---- the other calls
 
+-- bytes by their length
+five : (d : Device) (input : ℕ) (bytes : List ℕ) (q : Bool)
+    → receivedBy (Ao.takenOn (d .ao .state) input) (d .ao .state) (Ao.received (cond q (Received.Value (record { bits = wordOf (getD bytes 0 0) (getD bytes 1 0) (getD bytes 2 0) (getD bytes 3 0); status = getD bytes 4 0 })) (Received.Refused WrongLength))) .answer
+    ≡ cond (not q) (Refused WrongLength) Accepted
+five d input bytes true = refl
+five d input bytes false = refl
+
+two : (d : Device) (input : ℕ) (bytes : List ℕ) (q : Bool)
+    → receivedBy (Dout.takenOn (d .dout .state) input) (d .dout .state) (Dout.received (cond q (DiscreteReceived.Value (record { value = getD bytes 0 0; status = getD bytes 1 0 })) (DiscreteReceived.Refused WrongLength))) .answer
+    ≡ cond (not q) (Refused WrongLength) Accepted
+two d input bytes true = refl
+two d input bytes false = refl
+
+-- what a telegram is answered, by its input
+telegram-answer : (d : Device) (input : ℕ) (bytes : List ℕ) → telegramOf d input bytes .answer ≡ toTelegram input bytes
+unfolding telegramOf Ao.telegramOf Dout.telegramOf telegramBy pairOf discreteOf toTelegram
+telegram-answer d zero bytes = five d 0 bytes (eqb (length bytes) 5)
+telegram-answer d (suc zero) bytes = five d 1 bytes (eqb (length bytes) 5)
+telegram-answer d (suc (suc zero)) bytes = two d 2 bytes (eqb (length bytes) 2)
+telegram-answer d (suc (suc (suc zero))) bytes = two d 3 bytes (eqb (length bytes) 2)
+telegram-answer d (suc (suc (suc (suc n)))) bytes = rw (lt-ltb 1 (suc (suc (suc (suc n)))) (omega arith), lt-ltb 3 (suc (suc (suc (suc n)))) (omega arith), ne-eqb (suc (suc (suc (suc n)))) 2 (omega arith), ne-eqb (suc (suc (suc (suc n)))) 3 (omega arith))
+
 telegram-ruled : (h : History Event) (input : ℕ) (bytes : List ℕ) → Holds (deviceOf h) h
     → Holds (telegramOf (deviceOf h) input bytes .device) (cond (isAccepted (toTelegram input bytes)) (h ▷ Event.telegram input bytes) h)
-unfolding toTelegram
-telegram-ruled h input bytes H = go (ltb 1 input) refl (eqb (length bytes) 5) refl
+telegram-ruled h input bytes H = go (toTelegram input bytes) refl
   where
-    small : (n : ℕ) → n ≤ 1 → n < 2
-    small n s = omega arith
+    below : (n : ℕ) → n ≤ 3 → n < 4
+    below n s = omega arith
 
-    go : (p : Bool) → ltb 1 input ≡ p → (q : Bool) → eqb (length bytes) 5 ≡ q → Holds (telegramOf (deviceOf h) input bytes .device) (cond (isAccepted (cond (ltb 1 input) (Rules.refused 8) (cond (not (eqb (length bytes) 5)) (Rules.refused 7) Accepted))) (h ▷ Event.telegram input bytes) h)
-    go true ep q eq = rw (ep, telegram-refused (deviceOf h) input bytes (inl ep)) H
-    go false ep false eq = rw (ep, eq, telegram-refused (deviceOf h) input bytes (inr eq)) H
-    go false ep true eq = rw (ep, eq) (record {
-      ruled = ruled-telegram h bytes eq input (small input (ltb-false 1 input ep));
-      ainLast = unfold given lastOut carried in H .ainLast;
-      aoLast = unfold given lastOut carried in H .aoLast;
+    accepted-is : toTelegram input bytes ≡ Accepted → (input < 4) × (eqb (length bytes) (Rules.telegramBytes input) ≡ true)
+    accepted-is = unfold toTelegram in by (ltb 3 input) refl (eqb (length bytes) (Rules.telegramBytes input))
+      where
+        by : (p : Bool) → ltb 3 input ≡ p → (q : Bool) → cond p (Rules.refused 8) (cond (not q) (Rules.refused 7) Accepted) ≡ Accepted → (input < 4) × (q ≡ true)
+        by true e q t = absurd (refused-other t)
+        by false e false t = absurd (refused-other t)
+        by false e true t = (below input (ltb-false 3 input e), refl)
+
+    go : (x : Answer) → toTelegram input bytes ≡ x → Holds (telegramOf (deviceOf h) input bytes .device) (cond (isAccepted (toTelegram input bytes)) (h ▷ Event.telegram input bytes) h)
+    go Accepted e = rw e (record {
+      ruled = ruled-telegram h bytes input (accepted-is e .0) (accepted-is e .1);
+      last = unfold given lastOut carried in H .last;
       sound = unfold stored latest in H .sound;
       tabled = unfold table Rules.tabled latest in H .tabled;
       ticks = (H .ticks, tt);
     })
+    go (Refused r) e = rw (e, refused-telegram (deviceOf h) input bytes r (telegram-answer (deviceOf h) input bytes ∙ e)) H
 
 load-ruled : (h : History Event) (bytes : List ℕ) → Holds (deviceOf h) h
     → Holds (loadOf (deviceOf h) bytes .device) (cond (isAccepted (toLoad h bytes)) (h ▷ loaded bytes) h)
@@ -163,8 +199,7 @@ load-ruled h bytes H = go (toLoad h bytes) refl
     go : (x : Answer) → toLoad h bytes ≡ x → Holds (loadOf (deviceOf h) bytes .device) (cond (isAccepted (toLoad h bytes)) (h ▷ loaded bytes) h)
     go Accepted e = rw e (record {
       ruled = ruled-load h bytes e;
-      ainLast = unfold given lastOut carried in H .ainLast;
-      aoLast = unfold given lastOut carried in H .aoLast;
+      last = unfold given lastOut carried in H .last;
       sound = unfold stored latest in H .sound;
       tabled = loaded-came h bytes e;
       ticks = (H .ticks, tt);
@@ -172,30 +207,41 @@ load-ruled h bytes H = go (toLoad h bytes) refl
     go (Refused r) e = rw (e, load-refused (deviceOf h) bytes r (load-answer h bytes ∙ e)) H
 
 tick-ruled : (h : History Event) (fault : Bool) (fed : Fed) → Holds (deviceOf h) h → Holds (after (deviceOf h) (tick fault fed)) (h ▷ event (deviceOf h) (tick fault fed))
-unfolding after event readOf entryOf entryIn Table.ain Table.ao wordsOf ainWords aoWords stored latest lastOut carried
+unfolding after event readOf entryOf entryIn Table.ain Table.ao Table.di Table.dout Table.discrete wordsOf ainWords aoWords diWords doutWords discreteWords stored latest lastOut carried
 tick-ruled h fault fed H = record {
-  ruled = ruled-tick h (H .sound) fault fed ainOld aoOld seen (λ i. ain-given h (H .sound) fault fed ainOld aoOld seen i .bits);
-  ainLast = sym (ain-given h (H .sound) fault fed ainOld aoOld seen);
-  aoLast = sym (ao-given h (H .sound) fault fed ainOld aoOld seen);
+  ruled = ruled-tick h (H .sound) fault fed old seen (λ i. ain-given h (H .sound) fault fed old seen i .bits);
+  last =
+      operated-each (λ (B : ℕ). given B after-tick ≡ lastOut B after-tick) (sym (ain-given h (H .sound) fault fed old seen)) (sym (ao-given h (H .sound) fault fed old seen))
+      (λ i. paired (sym (di-given h (H .sound) fault fed old seen) i)) (λ i. paired (sym (dout-given h (H .sound) fault fed old seen) i));
   sound = H .sound;
   tabled = unfold table Rules.tabled in H .tabled;
-  ticks = (H .ticks, record { drive = order-is h (H .sound) fault fed ainOld aoOld seen; quality = good-is h (H .sound) fault fed ainOld aoOld seen });
+  ticks = (
+    H .ticks,
+    record {
+      drive = order-is h (H .sound) fault fed old seen;
+      driveD = order-d-is h (H .sound) fault fed old seen;
+      quality = good-is h (H .sound) fault fed old seen;
+      qualityD = good-d-is h (H .sound) fault fed old seen;
+    },
+  );
 }
   where
-    ainOld : given 1 h .bits ≡ oldOut 1 h
-    ainOld = unfold oldOut in λ i. H .ainLast i .bits
-
-    aoOld : given 3 h .bits ≡ oldOut 3 h
-    aoOld = unfold oldOut in λ i. H .aoLast i .bits
+    old : (B : ℕ) → Operated B → given B h .bits ≡ oldOut B h
+    old B o = unfold oldOut in λ i. H .last B o i .bits
 
     seen : Seen
     seen = seenOf (tickedBy (deviceOf h) fault fed)
 
+    after-tick : History Event
+    after-tick = h ▷ ticked fault fed seen
+
+    paired : Discrete → Pair
+    paired p = Rules.pair (p .value) (p .status)
+
 warm-ruled : (h : History Event) → Holds (deviceOf h) h → Holds (warmStarted (deviceOf h)) (h ▷ Event.warmed)
 warm-ruled h H = record {
   ruled = ruled-warm h;
-  ainLast = unfold given lastOut carried in λ i. Rules.held (H .ainLast i);
-  aoLast = unfold given lastOut carried in λ i. Rules.held (H .aoLast i);
+  last = unfold given lastOut carried in λ B o i. Rules.held (H .last B o i);
   sound = unfold stored latest in H .sound;
   tabled = unfold table Rules.tabled latest in H .tabled;
   ticks = (H .ticks, tt);
@@ -223,7 +269,7 @@ run (c ∷ cs) d t fit H = run cs (after d c) (t ▷ event d c) (and-r (fitting 
 
 start-holds : Holds factoryDevice (accepted start)
 unfolding accepted
-start-holds = record { ruled = ruled-start; ainLast = unfold given lastOut carried in refl; aoLast = unfold given lastOut carried in refl; sound = sound-start; tabled = unfold table Rules.tabled latest in refl; ticks = tt }
+start-holds = record { ruled = ruled-start; last = unfold given lastOut carried in λ B o. refl; sound = sound-start; tabled = unfold table Rules.tabled latest in refl; ticks = tt }
 
 reached-holds : (cs : List Call) → T (allFit cs) → Holds (reached cs) (accepted (trace cs))
 unfolding reached trace
@@ -234,17 +280,6 @@ reached-holds cs fit = run cs factoryDevice start fit start-holds
 write-answer : (d : Device) (block number a b : ℕ) (x : Answer) → writeBy d block number a b x .answer ≡ x
 write-answer d block number a b Accepted = refl
 write-answer d block number a b (Refused r) = refl
-
-telegram-answer : (d : Device) (input : ℕ) (bytes : List ℕ) → telegramOf d input bytes .answer ≡ toTelegram input bytes
-unfolding telegramOf Ao.telegramOf pairOf toTelegram
-telegram-answer d input bytes = go (ltb 1 input) (eqb (length bytes) 5)
-  where
-    go : (p q : Bool)
-        → cond p (Ao.refusedWith (d .ao .state) NoSuchInput) (Ao.receivedOn (d .ao .state) input (cond q (Received.Value (record { bits = wordOf (getD bytes 0 0) (getD bytes 1 0) (getD bytes 2 0) (getD bytes 3 0); status = getD bytes 4 0 })) (Received.Refused WrongLength))) .answer
-        ≡ cond p (Refused NoSuchInput) (cond (not q) (Refused WrongLength) Accepted)
-    go true q = refl
-    go false true = refl
-    go false false = refl
 
 next-same : (h : History Event) (c : Call) → hasTable (tableOf (table h)) ≡ Rules.tabled h → answers (deviceOf h) c ≡ answer h (event (deviceOf h) c)
 unfolding event writeOf
@@ -264,5 +299,5 @@ demand-3 calls fit =
       total = ap (λ (d : Device). d .tot .state .total) (H .ruled) ∙ (unfold deviceOf totIn in refl);
       ticks = H .ticks;
       next = λ c. ap (λ (d : Device). answers d c) (H .ruled) ∙ next-same h c (H .tabled) ∙ ap (λ (d : Device). answer h (event d c)) (sym (H .ruled));
-      image = λ buffer. (image-answer buffer, ap (λ (d : Device). imageBytes buffer (d .ain .state .out) (d .tot .state .out) (d .ao .state .out)) (H .ruled) ∙ image-same h buffer);
+      image = λ buffer. (image-answer buffer, ap (λ (d : Device). imageBytes buffer (d .ain .state .out) (d .tot .state .out) (d .ao .state .out) (d .di .state .out) (d .dout .state .out)) (H .ruled) ∙ image-same h buffer);
     }

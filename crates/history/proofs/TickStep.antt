@@ -24,13 +24,19 @@ use Rattle.tot.specs.declared.State.{State as TotState}
 use Rattle.tot.specs.Tick as Tot
 use Rattle.ao.specs.declared.State.{State as AoState}
 use Rattle.ao.specs.declared.Order.{Order}
-use Rattle.ao.specs.FailSafe as FailSafe
+use Rattle.blocks.specs.FailSafe as FailSafe
 use Rattle.ao.specs.State.{inputFrom}
-use Rattle.ao.specs.FailSafe.{OrderOf, GivenOf, scaledOr, leadsTo, byMode, caseOf, Case, following, fallback, held, nothingHeld, safety, failSafeActs, failSafeCase, silenceAfter, afterTick}
+use Rattle.blocks.specs.FailSafe.{OrderOf, GivenOf, scaledOr, leadsTo, byMode, caseOf, Case, following, fallback, held, nothingHeld, safety, failSafeActs, failSafeCase, silenceAfter, afterTick}
 use Rattle.ao.specs.Tick as Ao
-use Rattle.ao.specs.Laws.{stopped-decides}
+use Rattle.blocks.specs.Discrete.{inverted}
+use Rattle.di.specs.declared.State.{State as DiState}
+use Rattle.di.specs.Tick as Di
+use Rattle.di.specs.Laws.{good-exactly as di-good-exactly}
+use Rattle.dout.specs.State as DoutState
+use Rattle.dout.specs.Tick as Dout
+use Rattle.blocks.specs.Laws.{stopped-decides}
 use Rattle.parameters.specs.declared.Words.{Words}
-use Rattle.parameters.specs.declared.Allowed.the-variants.{Mode}
+use Rattle.parameters.specs.declared.Allowed.the-variants.{Mode, UpTo}
 use Rattle.parameters.specs.Table.{entryIn, entryOf}
 use Rattle.parameters.specs.Table as Table
 use Rattle.parameters.specs.Words.{allowsOf}
@@ -38,12 +44,13 @@ use Rattle.device.specs.declared.Device.{Device}
 use Rattle.device.specs.Calls.{tickOf}
 use Rattle.history.specs.Past.{History, _▷_, count, countSince, since, latest, carried}
 use Rattle.history.specs.Calls.{Fed, Seen, Event, ticked, tickedBy}
-use Rattle.history.specs.Rules.{pair, isAuto, calculated, stored, code, float, scale, table, outOfService, man, auto, rcas, stRev, modeAt, actual, operator, oldOut, filterValue, lastUsable, analogIn, ainSensed, senses, Alarm, hiHi, hi, lo, loLo, stands, raises, clears, rateValue, total, totGives, Drive, analogOut, came, setpoint, silence, ifs, isFailSafe, isUsableOn, Move, Given, positioned, workedOr, aoScaled, aoWorked, working, drivenFailSafe, drivenBy, drives, driven, analogOrder, order, given}
+use Rattle.history.specs.Rules.{pair, isAuto, calculated, stored, code, float, scale, table, outOfService, man, auto, rcas, stRev, modeAt, actual, operator, oldOut, filterValue, lastUsable, analogIn, ainSensed, senses, Alarm, hiHi, hi, lo, loLo, stands, raises, clears, rateValue, total, totGives, Drive, analogOut, discreteIn, discreteOut, discrete, isBit, discreteOrder, orderD, came, setpoint, silence, ifs, isFailSafe, isUsableOn, Move, Given, positioned, workedOr, aoScaled, aoWorked, working, drivenFailSafe, drivenBy, drives, driven, analogOrder, order, given}
 use Rattle.history.specs.Rules as Rules
 use Rattle.history.specs.Claim.{good}
-use Rattle.history.proofs.Ruled.{keptOf, inputAt, aoInput, alarmsAt, ainAt, totAt, aoAt, ainIn, totIn, aoIn, deviceOf, cond-ap, came-same, ifs-same, setpoint-same}
-use Rattle.history.proofs.Sound.{Sound}
-use Rattle.history.proofs.Ticks.{calculated-is, IsMode, IsAoMode, target, ao-target, mode, ao-mode, ain-is, tot-is}
+use Rattle.history.specs.ManLaws.{Operated}
+use Rattle.history.proofs.Ruled.{keptOf, inputAt, aoInput, doutInput, alarmsAt, ainAt, totAt, aoAt, diAt, doutAt, ainIn, totIn, aoIn, diIn, doutIn, deviceOf, cond-ap, came-same, ifs-same, setpoint-same}
+use Rattle.history.proofs.Sound.{fits, Sound}
+use Rattle.history.proofs.Ticks.{calculated-is, IsMode, IsAoMode, target, ao-target, mode, ao-mode, ain-is, tot-is, value-is, di-is}
 
 -- ---- what stands at the tick
 
@@ -60,13 +67,34 @@ module _ (h : History Event) (S : Sound h) where
   unfolding modeAt actualMode entryOf entryIn Table.ao
   ao-mode-at fault = ao-mode fault (stored h 3 5 .first) (ao-target true (stored h 3 5 .first) (stored h 3 5 .second) (and-l (allowsOf (Mode true) (stored h 3 5 .first) (stored h 3 5 .second)) _ (S 3 5)))
 
+  di-mode : (fault : Bool) → IsMode (modeAt h fault 4)
+  unfolding modeAt actualMode entryOf entryIn Table.di Table.discrete
+  di-mode fault = mode fault (stored h 4 5 .first) (target (stored h 4 5 .first) (stored h 4 5 .second) (and-l (allowsOf (Mode false) (stored h 4 5 .first) (stored h 4 5 .second)) _ (S 4 5)))
+
+  dout-mode : (fault : Bool) → IsAoMode (modeAt h fault 5)
+  unfolding modeAt actualMode entryOf entryIn Table.dout Table.discrete
+  dout-mode fault = ao-mode fault (stored h 5 5 .first) (ao-target true (stored h 5 5 .first) (stored h 5 5 .second) (and-l (allowsOf (Mode true) (stored h 5 5 .first) (stored h 5 5 .second)) _ (S 5 5)))
+
+-- a stored code is within its range
+code-small : (n : ℕ) (w : Words) → T (allowsOf (UpTo n) (w .first) (w .second) && fits w) → w .first ≤ n
+unfolding allowsOf
+code-small n w t = leb→le (w .first) n (and-l (leb (w .first) n) _ (and-l (leb (w .first) n && eqb (w .second) 0) _ t))
+
+module _ (h : History Event) (S : Sound h) where
   set-small : stored h 2 13 .first ≤ 2
-  unfolding entryOf entryIn Table.tot allowsOf
-  set-small = leb→le (stored h 2 13 .first) 2 (and-l (leb (stored h 2 13 .first) 2) _ (and-l (leb (stored h 2 13 .first) 2 && eqb (stored h 2 13 .second) 0) _ (S 2 13)))
+  set-small = code-small 2 (stored h 2 13) (unfold entryOf entryIn Table.tot in S 2 13)
 
   time-small : stored h 3 23 .first ≤ 65535
-  unfolding entryOf entryIn Table.ao allowsOf
-  time-small = leb→le (stored h 3 23 .first) 65535 (and-l (leb (stored h 3 23 .first) 65535) _ (and-l (leb (stored h 3 23 .first) 65535 && eqb (stored h 3 23 .second) 0) _ (S 3 23)))
+  time-small = code-small 65535 (stored h 3 23) (unfold entryOf entryIn Table.ao in S 3 23)
+
+  contact-small : stored h 4 21 .first ≤ 1
+  contact-small = code-small 1 (stored h 4 21) (unfold entryOf entryIn Table.di Table.discrete in S 4 21)
+
+  sluice-small : stored h 5 21 .first ≤ 1
+  sluice-small = code-small 1 (stored h 5 21) (unfold entryOf entryIn Table.dout Table.discrete in S 5 21)
+
+  time-d-small : stored h 5 22 .first ≤ 65535
+  time-d-small = code-small 65535 (stored h 5 22) (unfold entryOf entryIn Table.dout Table.discrete in S 5 22)
 
 -- ---- alarms
 
@@ -246,9 +274,39 @@ order-same (FailSafe.position bits) = refl
 order-same FailSafe.safe = refl
 order-same FailSafe.rest = refl
 
+-- ---- DO
+
+dout-all : (h : History Event) → code h 5 21 ≤ 1 → (fault : Bool) → Dout.givenIn (doutAt h) (doutIn h) (modeAt h fault 5) ≡ all discreteOut h fault
+unfolding Dout.givenIn Dout.givenByInput Dout.givenBy Dout.inputUsed doutIn doutAt inverted
+dout-all h small fault = (λ i. byMode (modeAt h fault 5) (given 5 h .bits) (operator 5 h .bits) (operator 5 h .status)
+    (leadsTo (discreteOut .worked h) (given 5 h .bits) (caseOf (code h 5 22) (code h 5 20) (value-is (code h 5 21) small i) (DoutState.inputOf (cond (eqb (modeAt h fault 5) rcas) (doutInput 3 h) (doutInput 2 h))))))
+    ∙ go (eqb (modeAt h fault 5) rcas)
+  where
+    go : (r : Bool) → byMode (modeAt h fault 5) (given 5 h .bits) (operator 5 h .bits) (operator 5 h .status) (leadsTo (discreteOut .worked h) (given 5 h .bits) (caseOf (code h 5 22) (code h 5 20) (code h 5 21) (DoutState.inputOf (cond r (doutInput 3 h) (doutInput 2 h)))))
+        ≡ byMode (modeAt h fault 5) (given 5 h .bits) (operator 5 h .bits) (operator 5 h .status) (ledBy discreteOut h (given 5 h .bits) (cond r 3 2))
+    go true = refl
+    go false = refl
+
+order-d-same : (o : OrderOf ℕ) → Dout.driveOrder o ≡ discreteOrder (moved o)
+order-d-same (FailSafe.position value) = refl
+order-d-same FailSafe.safe = refl
+order-d-same FailSafe.rest = refl
+
 -- ---- the tick
 
-module _ (h : History Event) (S : Sound h) (fault : Bool) (fed : Fed) (ainOld : given 1 h .bits ≡ oldOut 1 h) (aoOld : given 3 h .bits ≡ oldOut 3 h) where
+module _ (h : History Event) (S : Sound h) (fault : Bool) (fed : Fed) (old : (B : ℕ) → Operated B → given B h .bits ≡ oldOut B h) where
+  abbrev ainOld : given 1 h .bits ≡ oldOut 1 h
+  ainOld = old 1 (inl refl)
+
+  abbrev aoOld : given 3 h .bits ≡ oldOut 3 h
+  aoOld = old 3 (inr (inl refl))
+
+  abbrev diOld : given 4 h .bits ≡ oldOut 4 h
+  diOld = old 4 (inr (inr (inl refl)))
+
+  abbrev doutOld : given 5 h .bits ≡ oldOut 5 h
+  doutOld = old 5 (inr (inr (inr refl)))
+
   abbrev pub next : Device
   next = tickedBy (deviceOf h) fault fed .device
 
@@ -269,6 +327,25 @@ module _ (h : History Event) (S : Sound h) (fault : Bool) (fed : Fed) (ainOld : 
     unfolding tickOf deviceOf Ao.tickOf Ao.tickedWith actualMode modeAt aoAt order
     order-is = ap (λ (g : GivenOf ℕ). Ao.driveOrder (g .order)) (ao-all h fault) ∙ order-same (all analogOut h fault .order)
         ∙ ap analogOrder (move-is analogOut h (time-small h S) fault aoOld (ao-mode-at h S fault))
+
+    pub di-given : next .di .state .out ≡ discrete (given 4 after)
+    unfolding tickOf deviceOf Di.tickOf actualMode modeAt diAt given carried
+    di-given = ap (λ (x : DiState). x .out) (di-is h fed diOld (contact-small h S) fault (di-mode h S fault))
+
+    pub dout-given : next .dout .state .out ≡ discrete (given 5 after)
+    unfolding tickOf deviceOf Dout.tickOf Dout.tickedWith actualMode modeAt doutAt given carried
+    dout-given = ap (λ (g : GivenOf ℕ). discrete (pair (g .value) (g .status))) (dout-all h (sluice-small h S) fault) ∙ ap discrete (out-is discreteOut h (time-d-small h S) fault doutOld (dout-mode h S fault))
+
+    pub order-d-is : tickedBy (deviceOf h) fault fed .«order_d» ≡ orderD h fault
+    unfolding tickOf deviceOf Dout.tickOf Dout.tickedWith actualMode modeAt doutAt orderD
+    order-d-is = ap (λ (g : GivenOf ℕ). Dout.driveOrder (g .order)) (dout-all h (sluice-small h S) fault) ∙ order-d-same (all discreteOut h fault .order)
+        ∙ ap discreteOrder (move-is discreteOut h (time-d-small h S) fault doutOld (dout-mode h S fault))
+
+    pub good-d-is : T (isAuto h fault 4) → good (next .di .state .out .status) ≡ (good (fed .di .status) && isBit (fed .di .value))
+    unfolding tickOf deviceOf Di.tickOf actualMode modeAt diAt
+    good-d-is t =
+        ap (λ (m : ℕ). good (Di.tickBy (diAt h) (diIn h) m (fed .di .value) (fed .di .status) .out .status)) (eqb→eq (modeAt h fault 4) auto t)
+        ∙ (unfold Di.tickBy in di-good-exactly (diAt h) (diIn h) auto (fed .di .value) (fed .di .status))
 
     pub good-is : T (isAuto h fault 1) → good (next .ain .state .out .status) ≡ (good (fed .ain .status) && finite (calculated h (filterValue h) (fed .ain)))
     unfolding tickOf deviceOf Ain.tickOf actualMode modeAt ainAt
@@ -313,11 +390,27 @@ module _ (h : History Event) (S : Sound h) (fault : Bool) (fed : Fed) (ainOld : 
         «rcas_in» = inputFrom (input-then analogOut 1 h fault fed seen i);
       }
 
+      di-then : next .di .state ≡ diIn after
+      unfolding tickOf deviceOf Di.tickOf actualMode modeAt diAt
+      di-then = di-is h fed diOld (contact-small h S) fault (di-mode h S fault) ∙ (unfold diIn given actual operator latest lastUsable carried in refl)
+
+      dout-then : next .dout .state ≡ doutIn after
+      unfolding tickOf deviceOf Dout.tickOf Dout.tickedWith actualMode modeAt doutAt doutIn actual operator latest carried
+      dout-then = λ i. record {
+        out = dout-given i;
+        mode = modeAt h fault 5;
+        operator = discrete (operator 5 h);
+        sp = DoutState.inputFrom (input-then discreteOut 2 h fault fed seen i);
+        «rcas_in» = DoutState.inputFrom (input-then discreteOut 3 h fault fed seen i);
+      }
+
       pub ruled-tick : next ≡ deviceOf after
-      unfolding tickOf deviceOf stored latest table ainAt totAt aoAt stRev count
+      unfolding tickOf deviceOf stored latest table ainAt totAt aoAt diAt doutAt stRev count
       ruled-tick = λ i. record {
         «write_locking» = code h 0 18;
         ain = record { settings = ainAt h; state = ain-then i; «st_rev» = stRev h 1; table = tableOf (table h) };
         tot = record { settings = totAt h; state = tot-then i; «st_rev» = stRev h 2 };
         ao = record { settings = aoAt h; state = ao-then i; «st_rev» = stRev h 3 };
+        di = record { settings = diAt h; state = di-then i; «st_rev» = stRev h 4 };
+        dout = record { settings = doutAt h; state = dout-then i; «st_rev» = stRev h 5 };
       }
