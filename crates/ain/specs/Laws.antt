@@ -1,15 +1,12 @@
 -- Laws of AIN's tick: when an Auto tick is Good, that OUT stays finite, and that no alarm rises and falls in one tick. Assumes nothing.
 use Prim.Native.Nat.{ℕ}
 use mathlib.Core.Path.{_≡_, refl, sym, ap, _∙_}
-use mathlib.Core.Option.{some}
-use native.Mathlib.Omega.{arith}
 use mathlib.Core.Bool.{Bool, true, false, not, _&&_, _||_, cond, true≢false}
 use lib.Dec.{T, eqb}
 use lib.IntN.{pos}
 use lib.Ieee.{Float, binary32, ofInt, ofBits, add, sub, mul, div, eq, le, fits, isNan}
 use lib.Ieee.Fits.{add-fits}
 use lib.Ieee.Scale.{finite}
-use borrow.Author.Tests.{eqb-true}
 use Rattle.numbers.specs.Floats.{floatOf, bitsOf}
 use Rattle.numbers.specs.FloatLaws.{float-back, add-right, sub-left, div-left}
 use Rattle.numbers.specs.Order.{not-rise-and-fall}
@@ -19,13 +16,11 @@ use Rattle.linearisation.specs.declared.Table.{Table}
 use Rattle.linearisation.specs.Table.{pairsOf}
 use Rattle.linearisation.specs.Value.{valueAt}
 use Rattle.linearisation.specs.Laws.{unfinished-stays}
-use Rattle.wire.specs.declared.Pair.{Pair}
 use Rattle.wire.specs.Status.{qualityOf}
 use Rattle.blocks.specs.declared.Kept.{Kept}
 use Rattle.blocks.specs.declared.Input.{Input}
 use Rattle.blocks.specs.declared.Input.the-variants.{Usable, Bad}
 use Rattle.blocks.specs.Common.{good}
-use Rattle.blocks.specs.InputBlock.{present, failSafePair}
 use Rattle.blocks.specs.Laws.{present-holds, fail-safe-not-good, fail-safe-holds, input-holds, good-by-input}
 use Rattle.ain.specs.declared.Settings.{Settings}
 use Rattle.ain.specs.declared.Alarms.{Alarms}

@@ -27,7 +27,7 @@ asDiscrete p = record { value = p .value; status = p .status }
 
 -- ---- modes
 
--- P10: the codes of the modes; RCas is AO's alone
+-- P10, Q3.2a: the codes of the modes; RCas is the output blocks' alone
 abbrev pub outOfService : ℕ
 outOfService = 0x80
 

@@ -11,17 +11,16 @@ use lib.Dec.{eqb, ltb}
 use Rattle.wire.specs.Status.{qualityOf, subStatusOf}
 use Rattle.wire.specs.declared.Refusal.{Refusal}
 use Rattle.wire.specs.declared.Answer.{Answer}
-use Rattle.wire.specs.Refusal.{ground}
 use Rattle.blocks.specs.declared.Class.{Class}
 use Rattle.blocks.specs.declared.Class.the-variants.{Usable, InitiateFailSafe, Neither}
 use Rattle.blocks.specs.declared.Input.{Input}
 use Rattle.blocks.specs.declared.Input.the-variants.{Usable as UsableInput, Bad}
-use Rattle.blocks.specs.Common.{PairOf, outOfService, man, inMode, inputStatus, good}
+use Rattle.blocks.specs.Common.{outOfService, man, inMode, inputStatus, good}
 use Rattle.blocks.specs.Discrete.{isDiscrete, exchanged, inverted, discreteValue}
 use Rattle.blocks.specs.InputBlock.{present, lastUsableOr, scaledOrOld, failSafePair}
 use Rattle.blocks.specs.FailSafe.{classOf, classNumber, usable, initiates, InputOf, afterTelegram, silenceAfter, failSafeActs, failSafeCase, caseOf}
-use Rattle.blocks.specs.FailSafe.{Case, following, fallback, held, nothingHeld, safety, rest, GivenOf, positioned, scaledOr, leadsTo, byMode}
-use Rattle.blocks.specs.Output.{ReceivedOf, accepted, refused, refusedWith, receivedBy, telegramBy}
+use Rattle.blocks.specs.FailSafe.{following, fallback, held, nothingHeld, safety, rest, GivenOf, positioned, scaledOr, leadsTo, byMode}
+use Rattle.blocks.specs.Output.{ReceivedOf, accepted, refused, telegramBy}
 
 -- ---- discrete values
 

@@ -1,6 +1,5 @@
 -- What AO and DO have in common beside their fail-safe: how a telegram is answered (document 01, Refused calls), over any type S of the block's state and any
 -- type P of pair. Assumes nothing.
-use Prim.Native.Nat.{ℕ}
 use mathlib.Core.Bool.{Bool, cond}
 use Rattle.wire.specs.declared.Refusal.{Refusal}
 use Rattle.wire.specs.declared.Answer.{Answer}

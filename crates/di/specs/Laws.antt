@@ -1,15 +1,13 @@
 -- Laws of DI's tick: when an Auto tick is Good, and that OUT_D stays 0 or 1. Assumes nothing.
 use Prim.Native.Nat.{ℕ}
 use mathlib.Core.Path.{_≡_, refl}
-use mathlib.Core.Option.{some}
 use mathlib.Core.Bool.{Bool, true, false, _&&_}
-use native.Mathlib.Omega.{arith}
 use Rattle.blocks.specs.declared.Input.{Input}
 use Rattle.blocks.specs.declared.Input.the-variants.{Usable, Bad}
 use Rattle.blocks.specs.Common.{actualMode, good}
 use Rattle.blocks.specs.Discrete.{isDiscrete, inverted}
-use Rattle.blocks.specs.InputBlock.{present}
-use Rattle.blocks.specs.Laws.{Discrete, inverted-discrete, value-discrete, mode-holds, present-holds, fail-safe-not-good, fail-safe-holds, input-holds, good-by-input}
+use Rattle.blocks.specs.Laws.{Discrete, inverted-discrete, value-discrete, mode-holds, present-holds, fail-safe-not-good, fail-safe-holds}
+use Rattle.blocks.specs.Laws.{input-holds, good-by-input}
 use Rattle.di.specs.declared.Settings.{Settings}
 use Rattle.di.specs.declared.State.{State}
 use Rattle.di.specs.Tick.{inputOf, failSafeOut, usableTick, unusableTick, autoBy, autoTick, manTick, outOfServiceTick, tickBy, tickOf}

@@ -5,7 +5,7 @@ use mathlib.Core.Option.{some}
 use mathlib.Core.Bool.{Bool, true, false, cond}
 use mathlib.Core.List.{List}
 use lib.Dec.{eqb}
-use Rattle.wire.specs.declared.Discrete.{Discrete as Received}
+use Rattle.wire.specs.declared.Discrete.{Discrete as Pair}
 use Rattle.wire.specs.Bytes.{discreteOf}
 use Rattle.blocks.specs.Common.{rcas, actualMode}
 use Rattle.blocks.specs.Discrete.{isDiscrete, inverted}
@@ -49,7 +49,7 @@ module _ (s : Settings) (state : State) (h : DiscreteStore state) where
   unfolding tickOf tickedWith afterTick
   tick-discrete fault = record { out = given (actualMode fault (s .target)); operator = h .operator; sp = h .sp; rcasIn = h .rcasIn }
 
-heard-discrete : (input : Input) (pair : Received) → Discrete (input .value) → Discrete (inputAfter input pair .value)
+heard-discrete : (input : Input) (pair : Pair) → Discrete (input .value) → Discrete (inputAfter input pair .value)
 unfolding inputAfter
 heard-discrete input pair d = after-telegram-holds Discrete (pair .status) (isDiscrete (pair .value)) (pair .value) (inputOf input) d (λ e. e)
 
@@ -58,7 +58,7 @@ pub telegram-discrete : (state : State) (input : ℕ) (bytes : List ℕ) → Dis
 unfolding telegramOf takenOn
 telegram-discrete state input bytes h = telegram-holds DiscreteStore (lacking input) (takenOn state input) state (received (discreteOf bytes)) h taken
   where
-    taken : (pair : Received) → DiscreteStore (takenOn state input pair)
+    taken : (pair : Pair) → DiscreteStore (takenOn state input pair)
     taken pair = go (eqb input 2)
       where
         go : (b : Bool)

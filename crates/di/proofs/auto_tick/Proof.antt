@@ -17,4 +17,14 @@ unfolding autoTick inputOf
 returns-2 c = rw (c .unusable-tick .ensures, ← c .before .before .before .before .before .is-discrete .ensures, ← c .before .before .before .before .input-status .ensures, c .before .before .input .given .1)
 
 pub auto-tick-spec : {M : Type 1} → statement M
-auto-tick-spec = tie.close (tie.spec (λ c κs. search needs) (λ c κs. search needs) enum-told (λ c κs. search needs) (λ c. search needs) (λ c κs. search needs) returns returns-2)
+auto-tick-spec =
+    tie.close
+    (tie.spec
+    (λ c κs. search needs)
+    (λ c κs. search needs)
+    enum-told
+    (λ c κs. search needs)
+    (λ c. search needs)
+    (λ c κs. search needs)
+    returns
+    returns-2)

@@ -27,4 +27,14 @@ unfolding failSafeOut failSafePair
 returns-5 c = rw (← c .before .is-discrete .ensures, c .before .before .before .if1 .left, c .before .before .if2 .left, c .if4 .left)
 
 pub fail-safe-spec : {M : Type 1} → statement M
-fail-safe-spec = tie.close (tie.spec (λ c κs. search needs) returns returns-2 returns-3 (λ c κs. search needs) (λ c κs. search needs) returns-4 returns-5)
+fail-safe-spec =
+    tie.close
+    (tie.spec
+    (λ c κs. search needs)
+    returns
+    returns-2
+    returns-3
+    (λ c κs. search needs)
+    (λ c κs. search needs)
+    returns-4
+    returns-5)

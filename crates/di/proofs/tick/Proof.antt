@@ -18,4 +18,13 @@ unfolding tickOf tickBy
 returns-3 c = rw (c .auto-tick .ensures, ← c .before .before .before .actual-mode .ensures, c .before .before .if1 .left, c .before .if2 .left)
 
 pub tick-spec : {M : Type 1} → statement M
-tick-spec = tie.close (tie.spec (λ c κs. search needs) (λ c κs. search needs) returns (λ c κs. search needs) returns-2 (λ c κs. search needs) returns-3)
+tick-spec =
+    tie.close
+    (tie.spec
+    (λ c κs. search needs)
+    (λ c κs. search needs)
+    returns
+    (λ c κs. search needs)
+    returns-2
+    (λ c κs. search needs)
+    returns-3)

@@ -8,4 +8,10 @@ returns : tie.Need-returns
 returns c = rw (c .fresh-operator-d .ensures, c .before .nothing .ensures, c .before .before .held-d .ensures)
 
 pub warm-start-spec : {M : Type 1} → statement M
-warm-start-spec = tie.close (tie.spec (λ c κs. search needs) (λ c κs. search needs) (λ c κs. search needs) returns)
+warm-start-spec =
+    tie.close
+    (tie.spec
+    (λ c κs. search needs)
+    (λ c κs. search needs)
+    (λ c κs. search needs)
+    returns)

@@ -14,4 +14,11 @@ unfolding caseOf
 returns-2 c = rw (← c .before .fail-safe-acts .ensures, c .if1 .left)
 
 pub case-of-spec : {M : Type 1} → statement M
-case-of-spec = tie.close (tie.spec (λ c κs. search needs) (λ c κs. search needs) (λ c κs. search needs) returns returns-2)
+case-of-spec =
+    tie.close
+    (tie.spec
+    (λ c κs. search needs)
+    (λ c κs. search needs)
+    (λ c κs. search needs)
+    returns
+    returns-2)

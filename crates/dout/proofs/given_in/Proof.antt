@@ -19,4 +19,12 @@ unfolding givenIn byMode givenByInput
 returns-3 c = rw (c .given-by .ensures, c .before .case-in .ensures, c .before .before .before .if1 .left, c .before .before .if2 .left)
 
 pub given-in-spec : {M : Type 1} → statement M
-given-in-spec = tie.close (tie.spec returns (λ c κs. search needs) returns-2 (λ c κs. search needs) (λ c κs. search needs) returns-3)
+given-in-spec =
+    tie.close
+    (tie.spec
+    returns
+    (λ c κs. search needs)
+    returns-2
+    (λ c κs. search needs)
+    (λ c κs. search needs)
+    returns-3)

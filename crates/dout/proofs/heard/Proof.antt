@@ -26,4 +26,15 @@ unfolding inputAfter afterTelegram usable initiates
 returns-4 c = rw (← c .before .before .class-of .ensures, c .enum-told3 .given .1)
 
 pub heard-spec : {M : Type 1} → statement M
-heard-spec = tie.close (tie.spec (λ c κs. search needs) (λ c κs. search needs) enum-told returns (λ c. search needs) (λ c. search needs) returns-2 returns-3 returns-4)
+heard-spec =
+    tie.close
+    (tie.spec
+    (λ c κs. search needs)
+    (λ c κs. search needs)
+    enum-told
+    returns
+    (λ c. search needs)
+    (λ c. search needs)
+    returns-2
+    returns-3
+    returns-4)

@@ -19,4 +19,13 @@ unfolding telegramOf telegramBy
 returns-3 c = rw (c .before .before .before .before .if1 .left, ← c .before .before .before .discrete-of .ensures, c .before .received2 .given .1)
 
 pub telegram-spec : {M : Type 1} → statement M
-telegram-spec = tie.close (tie.spec returns (λ c κs. search needs) (λ c. search needs) (λ c κs. search needs) (λ c. search needs) returns-2 returns-3)
+telegram-spec =
+    tie.close
+    (tie.spec
+    returns
+    (λ c κs. search needs)
+    (λ c. search needs)
+    (λ c κs. search needs)
+    (λ c. search needs)
+    returns-2
+    returns-3)
