@@ -9,35 +9,48 @@ use std::hint::black_box;
 use std::mem::size_of;
 use std::time::Instant;
 
-use comparison::archive::{Archive, Device, Pair, PACKED_BYTES};
+use comparison::archive::{Archive, Device, Discrete, Pair, PACKED_BYTES};
 use comparison::calls::{Call, Head};
 use comparison::histories::histories;
 use comparison::model::Model;
 use comparison::random::Random;
 
+/// A tick of the archive, as C makes it. One from before request 3 has no third pair; to measure it over these histories,
+/// `di` is left out here and in `Head::tick` of its own tests/rust/src/archive.rs, where DO's order is `Rest`.
+macro_rules! archive_tick {
+    ($head:expr, $fault:expr, $ain:expr, $tot:expr, $di:expr) => {
+        $head.tick_in_numbers(
+            $fault,
+            Pair { bits: $ain.0, status: $ain.1 },
+            Pair { bits: $tot.0, status: $tot.1 },
+            Discrete { value: $di.0, status: $di.1 },
+        )
+    };
+}
+
 /// A head whose ticks are measured, each in its own form.
 trait Measured: Head {
-    fn measured_tick(&mut self, fault: bool, ain: Pair, tot: Pair);
+    fn measured_tick(&mut self, fault: bool, ain: (u32, u8), tot: (u32, u8), di: (u8, u8));
 }
 
 impl Measured for Archive {
     #[inline(always)]
-    fn measured_tick(&mut self, fault: bool, ain: Pair, tot: Pair) {
-        black_box(self.tick_in_numbers(fault, ain, tot));
+    fn measured_tick(&mut self, fault: bool, ain: (u32, u8), tot: (u32, u8), di: (u8, u8)) {
+        black_box(archive_tick!(self, fault, ain, tot, di));
     }
 }
 
 impl Measured for Model {
     #[inline(always)]
-    fn measured_tick(&mut self, fault: bool, ain: Pair, tot: Pair) {
-        black_box(Model::tick(self, fault, ain.bits, ain.status, tot.bits, tot.status));
+    fn measured_tick(&mut self, fault: bool, ain: (u32, u8), tot: (u32, u8), di: (u8, u8)) {
+        black_box(Model::tick(self, fault, ain, tot, di));
     }
 }
 
 /// The measured function: a tick and nothing else. Not inlined, so that callgrind counts it by its name.
 #[inline(never)]
-fn tick_of<H: Measured>(head: &mut H, fault: bool, ain: (u32, u8), tot: (u32, u8)) {
-    head.measured_tick(fault, Pair { bits: ain.0, status: ain.1 }, Pair { bits: tot.0, status: tot.1 });
+fn tick_of<H: Measured>(head: &mut H, fault: bool, ain: (u32, u8), tot: (u32, u8), di: (u8, u8)) {
+    head.measured_tick(fault, ain, tot, di);
 }
 
 /// Pairs of the table, the most that it may have, and its last x.
@@ -63,9 +76,9 @@ fn with_table(history: &[Call], random: &mut Random) -> Vec<Call> {
     let mut calls = opening.to_vec();
     for call in without_table(history) {
         match call {
-            Call::Tick { fault, ain: (_, status), tot } => {
+            Call::Tick { fault, ain: (_, status), tot, di } => {
                 let x = random.unit() as f32 * LAST_X;
-                calls.push(Call::Tick { fault, ain: (x.to_bits(), status), tot });
+                calls.push(Call::Tick { fault, ain: (x.to_bits(), status), tot, di });
             }
             Call::Factory => {
                 calls.push(call);
@@ -97,8 +110,8 @@ fn play<H: Measured>(fresh: impl Fn() -> H, calls: &[Vec<Call>], times: usize) -
                 }
                 let start = Instant::now();
                 for call in &rest[..run] {
-                    if let Call::Tick { fault, ain, tot } = *call {
-                        tick_of(&mut head, fault, ain, tot);
+                    if let Call::Tick { fault, ain, tot, di } = *call {
+                        tick_of(&mut head, fault, ain, tot, di);
                     }
                 }
                 seconds += start.elapsed().as_secs_f64() - clock;
@@ -179,9 +192,8 @@ fn costs(calls: &[Vec<Call>]) -> [(&'static str, Cost); 12] {
         let mut head = measured!(factory, Archive::factory());
         for (index, call) in history.iter().enumerate() {
             match *call {
-                Call::Tick { fault, ain, tot } => {
-                    let (ain, tot) = (Pair { bits: ain.0, status: ain.1 }, Pair { bits: tot.0, status: tot.1 });
-                    black_box(measured!(tick, head.tick_in_numbers(fault, ain, tot)));
+                Call::Tick { fault, ain, tot, di } => {
+                    black_box(measured!(tick, archive_tick!(head, fault, ain, tot, di)));
                 }
                 Call::Telegram(input, ref bytes) => {
                     black_box(measured!(telegram, head.telegram_in_numbers(input, bytes)));

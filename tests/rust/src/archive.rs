@@ -1,8 +1,9 @@
 //! The proved head: the calls that `libcapi.a` exports, declared as `include/serkoviu.h` declares them.
 
+use std::fmt::Debug;
 use std::mem::{align_of, offset_of, size_of};
 
-use crate::calls::{Head, Order};
+use crate::calls::{Head, Order, Orders};
 use crate::model::Model;
 
 /// How a struct lies in memory.
@@ -34,6 +35,8 @@ c_structs! {
     Pair { bits: u32, status: u8 }
     Scale { low: f32, high: f32 }
     Kept { some: bool, value: f32 }
+    Discrete { value: u8, status: u8 }
+    KeptD { some: bool, value: u8 }
     AinSettings {
         target: u32, pv_scale: Scale, out_scale: Scale, lin_type: u32, pv_ftime: f32, fsafe_type: u32, fsafe_value: f32,
         alarm_hys: f32, hi_hi_lim: f32, hi_lim: f32, lo_lim: f32, lo_lo_lim: f32
@@ -50,18 +53,27 @@ c_structs! {
     }
     AoInput { some: bool, value: f32, silence: u32, ifs: bool }
     AoState { out: Pair, mode: u32, operator: Pair, sp: AoInput, rcas_in: AoInput }
+    DiSettings { target: u32, invert: u32, fsafe_type: u32, fsafe_val_d: u32 }
+    DiState { out: Discrete, mode: u32, last: KeptD, operator: Discrete }
+    DoSettings { target: u32, invert: u32, fsafe_type: u32, fsafe_val_d: u32, fsafe_time: u32 }
+    DoInput { some: bool, value: u8, silence: u32, ifs: bool }
+    DoState { out: Discrete, mode: u32, operator: Discrete, sp: DoInput, rcas_in: DoInput }
     AinBlock { settings: AinSettings, state: AinState, st_rev: u16, table: Table }
     TotBlock { settings: TotSettings, state: TotState, st_rev: u16 }
     AoBlock { settings: AoSettings, state: AoState, st_rev: u16 }
-    Device { write_locking: u32, ain: AinBlock, tot: TotBlock, ao: AoBlock }
+    DiBlock { settings: DiSettings, state: DiState, st_rev: u16 }
+    DoBlock { settings: DoSettings, state: DoState, st_rev: u16 }
+    Device { write_locking: u32, ain: AinBlock, tot: TotBlock, ao: AoBlock, di: DiBlock, dout: DoBlock }
     OrderNumbers { kind: u8, value: f32 }
+    OrderDNumbers { kind: u8, value: u8 }
+    OrdersNumbers { ao: OrderNumbers, dout: OrderDNumbers }
     ReadingNumbers { answer: u8, first: u32, second: u32 }
 }
 
 #[link(name = "capi", kind = "static")]
 extern "C" {
     fn serkoviu_factory() -> Device;
-    fn serkoviu_tick(device: *mut Device, fault: bool, ain: Pair, tot: Pair) -> OrderNumbers;
+    fn serkoviu_tick(device: *mut Device, fault: bool, ain: Pair, tot: Pair, di: Discrete) -> OrdersNumbers;
     fn serkoviu_telegram(device: *mut Device, input: u8, bytes: *const u8, length: usize) -> u8;
     fn serkoviu_write(device: *mut Device, block: u8, parameter: u8, first: u32, second: u32) -> u8;
     fn serkoviu_warm_start(device: *mut Device) -> u8;
@@ -75,11 +87,21 @@ extern "C" {
 }
 
 /// The length of a packed device.
-pub const PACKED_BYTES: usize = 440;
+pub const PACKED_BYTES: usize = 564;
 
 /// A device of the archive's.
 pub struct Archive {
     pub device: Device,
+}
+
+/// An order from its numbers; a kind that has no value comes with 0.
+fn order<V: Debug + Default + PartialEq>(kind: u8, value: V) -> Order<V> {
+    match (kind, value == V::default()) {
+        (0, _) => Order::Position(value),
+        (1, true) => Order::Safe,
+        (2, true) => Order::Rest,
+        _ => panic!("no such order: {kind}, {value:?}"),
+    }
 }
 
 fn accepted(answer: u8) -> Result<(), u8> {
@@ -98,8 +120,8 @@ impl Archive {
     }
 
     #[inline(always)]
-    pub fn tick_in_numbers(&mut self, fault: bool, ain: Pair, tot: Pair) -> OrderNumbers {
-        unsafe { serkoviu_tick(&mut self.device, fault, ain, tot) }
+    pub fn tick_in_numbers(&mut self, fault: bool, ain: Pair, tot: Pair, di: Discrete) -> OrdersNumbers {
+        unsafe { serkoviu_tick(&mut self.device, fault, ain, tot, di) }
     }
 
     #[inline(always)]
@@ -158,16 +180,11 @@ impl Head for Archive {
         *self = Archive::factory();
     }
 
-    fn tick(&mut self, fault: bool, ain_bits: u32, ain_status: u8, tot_bits: u32, tot_status: u8) -> Order {
-        let ain = Pair { bits: ain_bits, status: ain_status };
-        let tot = Pair { bits: tot_bits, status: tot_status };
-        let order = self.tick_in_numbers(fault, ain, tot);
-        match (order.kind, order.value.to_bits()) {
-            (0, bits) => Order::Position(bits),
-            (1, 0) => Order::Safe,
-            (2, 0) => Order::Rest,
-            other => panic!("no such order: {other:?}"),
-        }
+    fn tick(&mut self, fault: bool, ain: (u32, u8), tot: (u32, u8), di: (u8, u8)) -> Orders {
+        let [ain, tot] = [ain, tot].map(|(bits, status)| Pair { bits, status });
+        let di = Discrete { value: di.0, status: di.1 };
+        let OrdersNumbers { ao, dout } = self.tick_in_numbers(fault, ain, tot, di);
+        Orders { ao: order(ao.kind, ao.value.to_bits()), dout: order(dout.kind, dout.value) }
     }
 
     fn telegram(&mut self, input: u8, bytes: &[u8]) -> Result<(), u8> {

@@ -4,19 +4,37 @@ use std::fmt;
 use std::io::{self, BufRead, BufReader, Read, Write};
 use std::ops::Deref;
 
-/// AO's drive order; a position is given by its bits.
+/// A drive order. AO's position is given by its bits, DO's is 0 or 1.
 #[derive(Clone, Copy, PartialEq, Eq, Debug)]
-pub enum Order {
-    Position(u32),
+pub enum Order<V = u32> {
+    Position(V),
     Safe,
     Rest,
+}
+
+impl<V> Order<V> {
+    pub fn map<W>(self, position: impl Fn(V) -> W) -> Order<W> {
+        match self {
+            Order::Position(value) => Order::Position(position(value)),
+            Order::Safe => Order::Safe,
+            Order::Rest => Order::Rest,
+        }
+    }
+}
+
+/// What a tick gives.
+#[derive(Clone, Copy, PartialEq, Eq, Debug)]
+pub struct Orders {
+    pub ao: Order,
+    pub dout: Order<u8>,
 }
 
 /// An implementation of the head. A refused call gives its number.
 pub trait Head {
     /// Takes a fresh device.
     fn factory(&mut self);
-    fn tick(&mut self, fault: bool, ain_bits: u32, ain_status: u8, tot_bits: u32, tot_status: u8) -> Order;
+    /// The transducers' pairs are value and status; AIN's and TOT's values are given by their bits.
+    fn tick(&mut self, fault: bool, ain: (u32, u8), tot: (u32, u8), di: (u8, u8)) -> Orders;
     fn telegram(&mut self, input: u8, bytes: &[u8]) -> Result<(), u8>;
     fn write(&mut self, block: u8, parameter: u8, w1: u32, w2: u32) -> Result<(), u8>;
     fn read(&self, block: u8, parameter: u8) -> Result<(u32, u32), u8>;
@@ -63,7 +81,7 @@ impl Deref for Bytes {
 /// A load is seldom made and up to four times as long as a telegram, so its bytes lie elsewhere.
 #[derive(Clone, PartialEq, Eq, Debug)]
 pub enum Call {
-    Tick { fault: bool, ain: (u32, u8), tot: (u32, u8) },
+    Tick { fault: bool, ain: (u32, u8), tot: (u32, u8), di: (u8, u8) },
     Telegram(u8, Bytes),
     Write(u8, u8, u32, u32),
     Read(u8, u8),
@@ -79,7 +97,7 @@ pub enum Call {
 pub enum Answer {
     Ok,
     Refused(u8),
-    Order(Order),
+    Orders(Orders),
     Words(u32, u32),
     Bytes(Bytes),
     Total(i64),
@@ -95,7 +113,7 @@ impl Call {
             Err(number) => Answer::Refused(number),
         };
         match *self {
-            Call::Tick { fault, ain, tot } => Answer::Order(head.tick(fault, ain.0, ain.1, tot.0, tot.1)),
+            Call::Tick { fault, ain, tot, di } => Answer::Orders(head.tick(fault, ain, tot, di)),
             Call::Telegram(input, ref bytes) => accepted(head.telegram(input, bytes)),
             Call::Write(block, parameter, w1, w2) => accepted(head.write(block, parameter, w1, w2)),
             Call::Read(block, parameter) => match head.read(block, parameter) {
@@ -143,9 +161,10 @@ impl fmt::Display for Call {
         let write_bytes =
             |f: &mut fmt::Formatter, bytes: &[u8]| bytes.iter().try_for_each(|byte| write!(f, " {byte:#04X}"));
         match self {
-            Call::Tick { fault, ain, tot } => {
-                let fault = u8::from(*fault);
-                write!(f, "tick {fault} {:#010X} {:#04X} {:#010X} {:#04X}", ain.0, ain.1, tot.0, tot.1)
+            Call::Tick { fault, ain, tot, di } => {
+                write!(f, "tick {}", u8::from(*fault))?;
+                write!(f, " {:#010X} {:#04X} {:#010X} {:#04X}", ain.0, ain.1, tot.0, tot.1)?;
+                write!(f, " {} {:#04X}", di.0, di.1)
             }
             Call::Telegram(input, bytes) => {
                 write!(f, "telegram {input}")?;
@@ -173,9 +192,18 @@ impl fmt::Display for Answer {
         match self {
             Answer::Ok => write!(f, "ok"),
             Answer::Refused(number) => write!(f, "refused {number}"),
-            Answer::Order(Order::Position(bits)) => write!(f, "position {:#010X}", *bits),
-            Answer::Order(Order::Safe) => write!(f, "safe"),
-            Answer::Order(Order::Rest) => write!(f, "rest"),
+            Answer::Orders(Orders { ao, dout }) => {
+                match ao {
+                    Order::Position(bits) => write!(f, "position {:#010X} ", *bits)?,
+                    Order::Safe => write!(f, "safe ")?,
+                    Order::Rest => write!(f, "rest ")?,
+                }
+                match dout {
+                    Order::Position(value) => write!(f, "position {value}"),
+                    Order::Safe => write!(f, "safe"),
+                    Order::Rest => write!(f, "rest"),
+                }
+            }
             Answer::Words(w1, w2) => write!(f, "words {:#010X} {:#010X}", *w1, *w2),
             Answer::Bytes(bytes) => {
                 write!(f, "bytes")?;
@@ -217,6 +245,7 @@ fn parse_call<'a>(name: &[u8], mut words: impl Iterator<Item = &'a [u8]>) -> Opt
             fault: number(1)? == 1,
             ain: (number(u32::MAX)?, number(255)? as u8),
             tot: (number(u32::MAX)?, number(255)? as u8),
+            di: (number(255)? as u8, number(255)? as u8),
         },
         b"telegram" => {
             let input = number(255)? as u8;

@@ -2,17 +2,19 @@
 
 use std::fmt;
 
-use crate::calls::{Answer, Call, Head};
+use crate::calls::{Answer, Bytes, Call, Head};
 
 /// Gives a fresh head.
 pub type Make<'a> = &'a dyn Fn() -> Box<dyn Head>;
 
 /// Every parameter of every block.
-pub const PARAMETERS: [(u8, &[u8]); 4] = [
+pub const PARAMETERS: [(u8, &[u8]); 6] = [
     (0, &[18]),
     (1, &[1, 5, 6, 7, 10, 11, 12, 13, 16, 17, 18, 19, 21, 23, 25, 27]),
     (2, &[1, 5, 6, 10, 13, 14, 15, 16]),
     (3, &[1, 5, 6, 11, 23, 24, 25, 36, 37, 38]),
+    (4, &[1, 5, 6, 10, 15, 20, 21]),
+    (5, &[1, 5, 6, 10, 15, 20, 21, 22]),
 ];
 
 /// A call that two heads answer differently after the calls before it.
@@ -44,7 +46,7 @@ pub fn run(left: Make, right: Make, history: &[Call]) -> Option<Difference> {
         }
     }
     // Reads that are refused cannot depend on the state of a right head; once per history is enough.
-    let blocks = [0, 1, 2, 3, 4, 5, 128, 255];
+    let blocks = [0, 1, 2, 3, 4, 5, 6, 7, 128, 255];
     let all = blocks.iter().flat_map(|&block| (0..=255).map(move |parameter| Call::Read(block, parameter)));
     for call in all {
         let answers = (call.on(left), call.on(right));
@@ -70,9 +72,9 @@ fn step(left: &mut dyn Head, right: &mut dyn Head, call: &Call) -> Option<(Optio
             }
         }
     }
-    let mut images = [[0; 15]; 2];
+    let mut images = [[0; 19]; 2];
     if left.image(&mut images[0]) != right.image(&mut images[1]) || images[0] != images[1] {
-        probe = probe.or(Some(Call::Image(15)));
+        probe = probe.or(Some(Call::Image(19)));
     }
     if left.total() != right.total() {
         probe = probe.or(Some(Call::Total));
@@ -177,28 +179,42 @@ fn simpler(call: &Call) -> Vec<Call> {
     };
     let mut calls = Vec::new();
     match *call {
-        Call::Tick { fault, ain, tot } => {
-            let tick = |fault, ain, tot| Call::Tick { fault, ain, tot };
-            calls.push(tick(false, (0, 0x80), (0, 0x80)));
-            calls.push(tick(fault, ain, (0, 0x80)));
-            calls.push(tick(fault, (0, 0x80), tot));
-            calls.push(tick(fault, (ain.0, 0x80), tot));
-            calls.push(tick(fault, ain, (tot.0, 0x80)));
-            calls.push(tick(false, ain, tot));
-            calls.extend(floats(ain.0).map(|bits| tick(fault, (bits, ain.1), tot)));
-            calls.extend(floats(tot.0).map(|bits| tick(fault, ain, (bits, tot.1))));
+        Call::Tick { fault, ain, tot, di } => {
+            let tick = |fault, ain, tot, di| Call::Tick { fault, ain, tot, di };
+            calls.push(tick(false, (0, 0x80), (0, 0x80), (0, 0x80)));
+            calls.push(tick(fault, ain, (0, 0x80), (0, 0x80)));
+            calls.push(tick(fault, (0, 0x80), tot, (0, 0x80)));
+            calls.push(tick(fault, (0, 0x80), (0, 0x80), di));
+            calls.push(tick(fault, (0, 0x80), tot, di));
+            calls.push(tick(fault, ain, (0, 0x80), di));
+            calls.push(tick(fault, ain, tot, (0, 0x80)));
+            calls.push(tick(fault, (ain.0, 0x80), tot, di));
+            calls.push(tick(fault, ain, (tot.0, 0x80), di));
+            calls.push(tick(fault, ain, tot, (di.0, 0x80)));
+            calls.push(tick(fault, ain, tot, (di.0.min(2), di.1)));
+            calls.push(tick(fault, ain, tot, (0, di.1)));
+            calls.push(tick(false, ain, tot, di));
+            calls.extend(floats(ain.0).map(|bits| tick(fault, (bits, ain.1), tot, di)));
+            calls.extend(floats(tot.0).map(|bits| tick(fault, ain, (bits, tot.1), di)));
         }
-        Call::Telegram(input, bytes) => {
-            if let &[a, b, c, d, status] = &*bytes {
+        Call::Telegram(input, bytes) => match *bytes {
+            [a, b, c, d, status] => {
                 let bits = u32::from_be_bytes([a, b, c, d]);
                 let telegram = |bits: u32, status: u8| {
                     let [a, b, c, d] = bits.to_be_bytes();
-                    Call::Telegram(input, crate::calls::Bytes::new(&[a, b, c, d, status]))
+                    Call::Telegram(input, Bytes::new(&[a, b, c, d, status]))
                 };
                 calls.extend(floats(bits).map(|bits| telegram(bits, status)));
                 calls.push(telegram(bits, 0x80));
             }
-        }
+            [value, status] => {
+                let telegram = |value: u8, status: u8| Call::Telegram(input, Bytes::new(&[value, status]));
+                calls.push(telegram(0, status));
+                calls.push(telegram(value.min(2), status));
+                calls.push(telegram(value, 0x80));
+            }
+            _ => {}
+        },
         Call::Write(block, parameter, w1, w2) => {
             calls.extend(floats(w1).map(|w1| Call::Write(block, parameter, w1, w2)));
             calls.extend(floats(w2).map(|w2| Call::Write(block, parameter, w1, w2)));

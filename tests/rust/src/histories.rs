@@ -43,7 +43,7 @@ struct Profile {
     /// Weights of tick, telegram, write, read, warm start, factory, image, part, total and load.
     calls: [u32; 10],
     /// Weights of the blocks in writes.
-    blocks: [u32; 4],
+    blocks: [u32; 6],
     /// Per cent of writes and telegrams that are meant to be refused.
     hostile: u32,
     /// Per cent of ticks with the fault flag.
@@ -62,7 +62,7 @@ struct Profile {
 
 const BASE: Profile = Profile {
     calls: [1000, 120, 250, 20, 3, 1, 3, 3, 3, 3],
-    blocks: [1, 8, 8, 8],
+    blocks: [1, 8, 8, 8, 6, 8],
     hostile: 4,
     fault: 2,
     odd: 25,
@@ -72,23 +72,28 @@ const BASE: Profile = Profile {
     table: 20,
 };
 
-const PROFILES: [Profile; 12] = [
+const PROFILES: [Profile; 15] = [
     BASE,
     // AIN: limits and hysteresis rewritten under standing alarms.
-    Profile { calls: [1000, 5, 350, 20, 4, 1, 3, 1, 1, 3], blocks: [1, 60, 2, 2], odd: 12, plain: 80, ..BASE },
+    Profile { calls: [1000, 5, 350, 20, 4, 1, 3, 1, 1, 3], blocks: [1, 60, 2, 2, 1, 1], odd: 12, plain: 80, ..BASE },
     // AIN: filter and scales.
-    Profile { calls: [1000, 5, 200, 20, 4, 1, 3, 1, 1, 3], blocks: [1, 60, 2, 2], odd: 30, plain: 20, ..BASE },
+    Profile { calls: [1000, 5, 200, 20, 4, 1, 3, 1, 1, 3], blocks: [1, 60, 2, 2, 1, 1], odd: 30, plain: 20, ..BASE },
     // AIN: the linearisation table, then one with floats from the far ends.
-    Profile { calls: [1000, 5, 120, 5, 6, 1, 3, 1, 1, 12], blocks: [1, 60, 2, 2], plain: 80, table: 90, ..BASE },
-    Profile { calls: [1000, 5, 120, 5, 6, 1, 3, 1, 1, 12], blocks: [1, 60, 2, 2], wild: 30, table: 90, ..BASE },
+    Profile { calls: [1000, 5, 120, 5, 6, 1, 3, 1, 1, 12], blocks: [1, 60, 2, 2, 1, 1], plain: 80, table: 90, ..BASE },
+    Profile { calls: [1000, 5, 120, 5, 6, 1, 3, 1, 1, 12], blocks: [1, 60, 2, 2, 1, 1], wild: 30, table: 90, ..BASE },
     // TOT: small rates, then great ones.
-    Profile { calls: [1000, 5, 200, 20, 4, 1, 3, 1, 9, 1], blocks: [1, 2, 60, 2], odd: 30, ..BASE },
-    Profile { calls: [1000, 5, 120, 20, 4, 1, 3, 1, 9, 1], blocks: [1, 2, 60, 2], odd: 15, great: true, ..BASE },
+    Profile { calls: [1000, 5, 200, 20, 4, 1, 3, 1, 9, 1], blocks: [1, 2, 60, 2, 1, 1], odd: 30, ..BASE },
+    Profile { calls: [1000, 5, 120, 20, 4, 1, 3, 1, 9, 1], blocks: [1, 2, 60, 2, 1, 1], odd: 15, great: true, ..BASE },
     // AO: telegrams and silence.
-    Profile { calls: [1000, 250, 150, 20, 4, 1, 3, 1, 1, 1], blocks: [1, 2, 2, 60], odd: 30, ..BASE },
-    Profile { calls: [1000, 120, 60, 20, 10, 1, 3, 1, 1, 1], blocks: [1, 2, 2, 60], odd: 20, wild: 1, ..BASE },
+    Profile { calls: [1000, 250, 150, 20, 4, 1, 3, 1, 1, 1], blocks: [1, 2, 2, 60, 1, 1], odd: 30, ..BASE },
+    Profile { calls: [1000, 120, 60, 20, 10, 1, 3, 1, 1, 1], blocks: [1, 2, 2, 60, 1, 1], odd: 20, wild: 1, ..BASE },
+    // DI: contacts that fail, each FSAFE_TYPE, INVERT.
+    Profile { calls: [1000, 5, 250, 20, 25, 3, 3, 1, 1, 1], blocks: [1, 1, 1, 1, 60, 2], odd: 40, table: 0, ..BASE },
+    // DO: telegrams and silence, then with more of the silence.
+    Profile { calls: [1000, 250, 200, 20, 15, 3, 3, 1, 1, 1], blocks: [1, 1, 1, 2, 2, 60], odd: 30, table: 0, ..BASE },
+    Profile { calls: [1000, 100, 80, 20, 15, 3, 3, 1, 1, 1], blocks: [1, 1, 1, 20, 2, 60], odd: 20, table: 0, ..BASE },
     // Refusals of all kinds, often locked.
-    Profile { calls: [300, 200, 600, 200, 5, 5, 60, 60, 5, 40], blocks: [8, 8, 8, 8], hostile: 50, ..BASE },
+    Profile { calls: [300, 200, 600, 200, 5, 5, 60, 60, 5, 40], blocks: [8, 8, 8, 8, 8, 8], hostile: 50, ..BASE },
     // The far ends of the floats.
     Profile { calls: [1000, 120, 350, 20, 4, 1, 3, 3, 3, 5], wild: 45, plain: 60, odd: 15, ..BASE },
     // Modes: faults, Man, O/S, warm starts.
@@ -163,6 +168,11 @@ impl Maker {
             self.load();
             self.write(1, 13, (1, 0));
         }
+        if self.random.chance(self.profile.blocks[5]) {
+            // With FSAFE_TIME 0 a telegram is followed in one tick alone.
+            let words = self.words(5, 22);
+            self.write(5, 22, words);
+        }
     }
 
     fn call(&mut self) {
@@ -173,19 +183,20 @@ impl Maker {
             2 => self.allowed_write(),
             3 => {
                 let (block, parameter) = self.parameter();
-                let unknown = (self.random.below(6) as u8, self.random.byte());
+                let unknown = (self.random.below(8) as u8, self.random.byte());
                 let read = if self.random.chance(70) { (block, parameter) } else { unknown };
                 self.push(Call::Read(read.0, read.1));
             }
-            4 => self.push(Call::Warm),
+            4 => self.start(),
             5 => self.push(Call::Factory),
             6 => {
-                let length = self.random.pick(&[0, 1, 5, 10, 14, 15, 16, 17, 20, 64]);
+                let length = self.random.pick(&[0, 1, 5, 10, 14, 15, 17, 18, 18, 19, 19, 19, 20, 21, 64]);
                 self.push(Call::Image(length));
             }
             7 => {
-                let block = if self.random.chance(80) { self.random.below(5) as u8 } else { self.random.byte() };
-                let length = self.random.below(65) as u8;
+                let block = if self.random.chance(90) { self.random.below(7) as u8 } else { self.random.byte() };
+                let some = self.random.below(65) as u8;
+                let length = self.random.pick(&[some, some, 14, 15, 16, 17, 18, 19, 20]);
                 self.push(Call::Part(block, length));
             }
             8 => self.push(Call::Total),
@@ -204,9 +215,18 @@ impl Maker {
     fn ticks_with(&mut self, fault: bool) {
         let ain = (self.transducer_value(), self.status());
         let tot = (self.rate(), self.status());
+        let di = if self.random.chance(self.profile.odd / 4) {
+            self.failed_contact()
+        } else {
+            (self.contact(), self.status())
+        };
+        self.ticks_by(fault, ain, tot, di);
+    }
+
+    fn ticks_by(&mut self, fault: bool, ain: (u32, u8), tot: (u32, u8), di: (u8, u8)) {
         let times = if self.random.chance(10) { 1 + self.random.below(6) } else { 1 };
         for _ in 0..times {
-            self.push(Call::Tick { fault, ain, tot });
+            self.push(Call::Tick { fault, ain, tot, di });
         }
     }
 
@@ -342,12 +362,78 @@ impl Maker {
         self.near(sign * size)
     }
 
+    /// A discrete value, now and then one that is none.
+    fn contact(&mut self) -> u8 {
+        match self.random.below(16) {
+            0 => self.over_1(),
+            1 if self.random.chance(self.profile.wild) => self.random.byte(),
+            drawn => u8::from(drawn % 2 == 0),
+        }
+    }
+
+    fn over_1(&mut self) -> u8 {
+        self.random.pick(&[2, 2, 3, 7, 128, 129, 254, 255])
+    }
+
+    /// A pair for DI that is not usable: by its quality, by its value or by both.
+    fn failed_contact(&mut self) -> (u8, u8) {
+        let status = self.random.byte();
+        let usable = (0x40..0xC0).contains(&status);
+        let value = if usable || self.random.chance(50) { self.over_1() } else { self.random.below(2) as u8 };
+        (value, status)
+    }
+
+    // Starts
+
+    /// A warm start; after some of them DI has no usable value and DO no usable telegram for a while.
+    fn start(&mut self) {
+        self.push(Call::Warm);
+        if self.random.chance(self.profile.blocks[4].max(self.profile.blocks[5])) {
+            for _ in 0..1 + self.random.below(8) {
+                match self.random.below(6) {
+                    0 => {
+                        let (block, parameter) =
+                            self.random.pick(&[(4, 15), (4, 20), (4, 21), (5, 15), (5, 20), (5, 21)]);
+                        let words = self.words(block, parameter);
+                        self.write(block, parameter, words);
+                    }
+                    1 => {
+                        let (input, value) = (2 + self.random.below(2) as u8, self.contact());
+                        let status = self.random.pick(&[0xA0, 0xE3, 0x4C, 0x20]);
+                        self.push(Call::Telegram(input, Bytes::new(&[value, status])));
+                    }
+                    _ => {
+                        let (bits, rate, di) = (self.transducer_value(), self.rate(), self.failed_contact());
+                        self.ticks_by(false, (bits, 0x80), (rate, 0x80), di);
+                    }
+                }
+            }
+        }
+    }
+
     // Telegrams
 
+    /// To AO or to DO, as often as the profile has writes to them.
     fn telegram(&mut self) {
-        let remote = self.model.read(3, 5) == Ok((0x02, 0));
-        let mut input = u8::from(remote != self.random.chance(30));
-        let bits = match self.wild() {
+        let block = if self.random.weighted(&[self.profile.blocks[3], self.profile.blocks[5]]) == 0 { 3 } else { 5 };
+        self.telegram_to(block);
+    }
+
+    fn telegram_to(&mut self, block: u8) {
+        let remote = self.model.read(block, 5) == Ok((0x02, 0));
+        let first = if block == 3 { 0 } else { 2 };
+        let input = first + u8::from(remote != self.random.chance(30));
+        let value = if block == 3 { self.setpoint().to_be_bytes().to_vec() } else { vec![self.contact()] };
+        let status = self.telegram_status();
+        let bytes = [&value[..], &[status]].concat();
+        if self.random.chance(self.profile.hostile) {
+            return self.hostile_telegram(input, bytes);
+        }
+        self.push(Call::Telegram(input, Bytes::new(&bytes)));
+    }
+
+    fn setpoint(&mut self) -> u32 {
+        match self.wild() {
             Some(bits) => bits,
             None if self.random.chance(5) => self.random.pick(&FAR_ENDS),
             None => {
@@ -355,33 +441,35 @@ impl Maker {
                 let value = self.between(low, high);
                 self.near(value)
             }
-        };
-        let status = match self.random.below(100) {
-            0..=54 => 0x80,
-            55..=69 => 0xC0,
+        }
+    }
+
+    fn telegram_status(&mut self) -> u8 {
+        match self.random.below(100) {
+            0..=49 => 0x80,
+            50..=64 => 0xC0,
             // IFS, with all limit bits.
-            70..=79 => self.random.pick(&[0xA0, 0xE0]) | self.random.byte() & 3,
+            65..=79 => self.random.pick(&[0xA0, 0xE0]) | self.random.byte() & 3,
             // Its neighbours.
             80..=84 => self.random.pick(&[0x9C, 0xA4, 0xDC, 0xE4, 0x20, 0x60]),
             _ => self.random.byte(),
-        };
-        let mut bytes = [0x42; 64];
-        bytes[..4].copy_from_slice(&bits.to_be_bytes());
-        bytes[4] = status;
-        let mut length = 5;
-        if self.random.chance(self.profile.hostile) {
-            match self.random.below(3) {
-                0 => input = self.random.pick(&[2, 3, 255]),
-                1 => input = self.random.byte(),
-                _ => {}
-            }
-            match self.random.below(3) {
-                0 => length = self.random.pick(&[0, 1, 4, 6]),
-                1 => length = self.random.below(65) as usize,
-                _ => {}
-            }
         }
-        self.push(Call::Telegram(input, Bytes::new(&bytes[..length])));
+    }
+
+    /// Another input, another length, or both.
+    fn hostile_telegram(&mut self, mut input: u8, mut bytes: Vec<u8>) {
+        match self.random.below(4) {
+            0 => input = self.random.pick(&[4, 5, 255]),
+            1 => input = self.random.below(5) as u8,
+            2 => input = self.random.byte(),
+            _ => {}
+        }
+        match self.random.below(3) {
+            0 => bytes.resize(self.random.pick(&[0, 1, 2, 3, 4, 5, 6]), 0x42),
+            1 => bytes.resize(self.random.below(65) as usize, 0x42),
+            _ => {}
+        }
+        self.push(Call::Telegram(input, Bytes::new(&bytes)));
     }
 
     // Writes
@@ -411,7 +499,7 @@ impl Maker {
         if self.random.chance(self.profile.wild / 4) {
             words.0 = self.random.pick(&FAR_ENDS);
         }
-        let by_operator = matches!((block, parameter), (1 | 2, 10) | (3, 37));
+        let by_operator = matches!((block, parameter), (1 | 2 | 4 | 5, 10) | (3, 37));
         if by_operator && self.random.chance(90) {
             self.write(block, 5, (0x10, 0));
             self.write(block, parameter, words);
@@ -429,7 +517,7 @@ impl Maker {
     /// Into Man from another target, then what may come before the Man tick, and most often out again.
     fn through_man(&mut self, block: u8) {
         const MAN: (u32, u32) = (0x10, 0);
-        let others: &[u32] = if block == 3 { &[0x08, 0x02, 0x80] } else { &[0x08, 0x08, 0x80] };
+        let others: &[u32] = if block == 3 || block == 5 { &[0x08, 0x02, 0x80] } else { &[0x08, 0x08, 0x80] };
         let other = (self.random.pick(others), 0);
         self.write(block, 5, other);
         if self.random.chance(70) {
@@ -469,7 +557,7 @@ impl Maker {
                 }
                 5 => self.ticks_with(true),
                 6 if block == 1 => self.load(),
-                6 => self.telegram(),
+                6 => self.telegram_to(if block == 5 { 5 } else { 3 }),
                 _ if self.random.chance(30) => self.push(Call::Warm),
                 _ => self.ticks(),
             }
@@ -485,12 +573,14 @@ impl Maker {
         match (block, parameter) {
             (0, _) => (if self.random.chance(60) { 2457 } else { 0 }, 0),
             (3, 5) => (self.random.pick(&[0x08, 0x08, 0x08, 0x02, 0x02, 0x10, 0x80]), 0),
+            (5, 5) => (self.random.pick(&[0x08, 0x08, 0x02, 0x02, 0x10, 0x80]), 0),
             (_, 5) => (self.random.pick(&[0x08, 0x08, 0x08, 0x08, 0x08, 0x10, 0x80]), 0),
             (1, 10) => {
                 let value = self.out_that_matters();
                 (self.near(value), self.random.byte().into())
             }
             (2, 10) => (self.amount(), self.random.byte().into()),
+            (4 | 5, 10) => (self.random.below(2), self.random.byte().into()),
             (3, 37) => (self.setting(3, 38), self.random.byte().into()),
             (1, 11 | 12) | (3, 11 | 38) => self.scale(),
             (1, 16) => {
@@ -498,7 +588,7 @@ impl Maker {
                 let ftime = self.random.pick(&[0.0, -0.0, 0.1, 0.1, 1.5, 0.5, some, 3600.0, 1e-40]);
                 (ftime.to_bits(), 0)
             }
-            (1, 17) | (3, 24) | (2, 15) => (self.random.below(3), 0),
+            (1, 17) | (3, 24) | (2, 15) | (4 | 5, 20) => (self.random.below(3), 0),
             (1, 13) => (self.random.pick(&[0, 0, 1, 1, 1, 1, 1, 1, 1, 2]), 0),
             (2, 13) => (self.random.pick(&[0, 0, 0, 0, 1, 2]), 0),
             (2, 14) => (self.random.pick(&[0, 0, 0, 1, 2, 3]), 0),
@@ -521,9 +611,9 @@ impl Maker {
                 }
             }
             (2, _) => (self.amount(), 0),
-            (_, 23) => {
+            (3, 23) | (5, 22) => {
                 let ticks = self.random.below(8);
-                (self.random.pick(&[ticks, ticks, ticks, ticks, ticks, 100, 65_535]), 0)
+                (self.random.pick(&[ticks, ticks, ticks, ticks, 20, 100, 65_535]), 0)
             }
             _ => (self.random.below(2), 0),
         }
@@ -578,7 +668,7 @@ impl Maker {
         let words = self.words(block, parameter);
         match self.random.below(8) {
             0 => {
-                let block = 4 + self.random.below(252) as u8;
+                let block = 6 + self.random.below(250) as u8;
                 self.write(block, parameter, words);
             }
             1 => {
@@ -596,7 +686,7 @@ impl Maker {
             }
             // A parameter of another block.
             5 => {
-                let block = self.random.below(4) as u8;
+                let block = self.random.below(6) as u8;
                 self.write(block, parameter, words);
             }
             _ => {
@@ -621,7 +711,11 @@ impl Maker {
                 2 => (allowed.0, allowed.0 ^ 1),
                 _ => (self.random.pick(&FAR_ENDS), self.random.pick(&FAR_ENDS)),
             },
-            (_, 5) | (1, 13 | 17) | (2, 13..=15) | (3, 23 | 24 | 36) => (self.random.pick(&CODES), 0),
+            (_, 5) | (1, 13 | 17) | (2, 13..=15) | (3, 23 | 24 | 36) | (4 | 5, 15 | 20..=22) => {
+                (self.random.pick(&CODES), 0)
+            }
+            (4 | 5, 10) if self.random.chance(70) => (self.random.pick(&CODES), allowed.1),
+            (4 | 5, 10) => (allowed.0, self.random.pick(&[0, 255, 256, 0x180, u32::MAX])),
             (1 | 2, 10) | (3, 37) => match self.random.below(3) {
                 0 => (allowed.0, self.random.pick(&[0, 255, 256, 0x180, u32::MAX])),
                 1 => (self.random.pick(&FAR_ENDS), allowed.1),
@@ -767,11 +861,16 @@ impl Maker {
         for (parameter, word) in [(5, mode), (23, time), (24, 0), (25, 0x3F80_0000)] {
             self.write(3, parameter, (word, 0));
         }
+        let (time, mode) = (self.random.pick(&[time, 65_535, 65_534]), self.random.pick(&[0x08, 0x02]));
+        for (parameter, word) in [(5, mode), (22, time), (20, 0), (21, 1), (15, 0)] {
+            self.write(5, parameter, (word, 0));
+        }
         for scale in [11, 38] {
             self.write(3, scale, (0, 0x42C8_0000));
         }
         for input in [0, 1] {
             self.push(Call::Telegram(input, Bytes::new(&[0x42, 0x48, 0, 0, 0x80])));
+            self.push(Call::Telegram(2 + input, Bytes::new(&[0, 0x80])));
         }
         for _ in 0..65_536 + 20 {
             let draw = self.random.below(4000);
@@ -779,9 +878,13 @@ impl Maker {
                 // Telegrams that count for nothing.
                 0 => self.push(Call::Telegram(0, Bytes::new(&[0x42, 0x48, 0, 0, 0x4C]))),
                 1 => self.push(Call::Telegram(1, Bytes::new(&[0x7F, 0xC0, 0, 0, 0x80]))),
+                3 => self.push(Call::Telegram(2, Bytes::new(&[1, 0x4C]))),
+                4 => self.push(Call::Telegram(3, Bytes::new(&[2, 0x80]))),
                 _ => {}
             }
-            self.push(Call::Tick { fault: draw == 2, ain: (draw << 18, 0x80), tot: (0x3C80_0000, 0x80) });
+            let ain = (draw << 18, 0x80);
+            let di = ((draw % 2) as u8, 0x80);
+            self.push(Call::Tick { fault: draw == 2, ain, tot: (0x3C80_0000, 0x80), di });
         }
         for _ in 0..100 {
             self.call();
@@ -792,7 +895,7 @@ impl Maker {
     fn many_writes(&mut self) {
         self.opening();
         self.write(0, 18, (2457, 0));
-        let (block, parameter) = self.random.pick(&[(1, 17), (2, 15), (3, 24)]);
+        let (block, parameter) = self.random.pick(&[(1, 17), (2, 15), (3, 24), (4, 20), (5, 20)]);
         for _ in 0..65_536 + 20 {
             if block == 1 && self.random.chance(25) {
                 self.load_pairs(&[(0.0, 0.0), (1.0, 10.0)]);

@@ -1,9 +1,10 @@
 //! The intake head as a plain state machine, written from the paper alone. Sentences of the paper are quoted.
 //!
 //! A float that is stored is never a NaN (no range lets one in, and outputs are tested), so an `f32` keeps its
-//! bits. A transducer value and a telegram may be NaNs and are taken as bits.
+//! bits. A transducer value and a telegram may be NaNs and are taken as bits. So with DI and DO: a discrete value that
+//! is stored is 0 or 1, and one that comes in may be any byte.
 
-use crate::calls::{Head, Order};
+use crate::calls::{Head, Order, Orders};
 
 const OUT_OF_SERVICE: u8 = 0x80;
 const MAN: u8 = 0x10;
@@ -12,7 +13,8 @@ const RCAS: u8 = 0x02;
 
 /// Fresh, after a warm start, and in O/S.
 const PASSIVE: u8 = 0x1F;
-const SET_BY_NO_ONE: Pair = Pair { value: 0.0, status: 0x4C };
+/// Of an operator's pair that no one has set.
+const SET_BY_NO_ONE: u8 = 0x4C;
 
 const HI_HI: u8 = 1;
 const HI: u8 = 2;
@@ -23,13 +25,50 @@ const LO_LO: u8 = 8;
 const MOST_PAIRS: usize = 21;
 const PAIR_BYTES: usize = 8;
 
+/// Five bytes each for AIN, TOT and AO, two each for DI and DO.
+const IMAGE_BYTES: usize = 19;
+
 const MOST_INCREMENT: i64 = 1_000_000_000;
 const MOST_TOTAL: i64 = 1_000_000_000_000;
 
+/// What a block gives: a float, or in DI and DO a byte that is 0 or 1. What comes in may be no such value.
+trait Value: Copy {
+    const ZERO: Self;
+    /// The status of a transducer's value that is none, where its quality is 1 or 2.
+    const BAD: u8;
+
+    /// It is finite, or 0 or 1.
+    fn is_value(self) -> bool;
+}
+
+impl Value for f32 {
+    const ZERO: f32 = 0.0;
+    const BAD: u8 = 0x10;
+
+    fn is_value(self) -> bool {
+        self.is_finite()
+    }
+}
+
+/// "another value counts in DI as Bad 0x04 [..], stands for the rest [..] where AIN or AO has one not finite"
+impl Value for u8 {
+    const ZERO: u8 = 0;
+    const BAD: u8 = 0x04;
+
+    fn is_value(self) -> bool {
+        self <= 1
+    }
+}
+
 #[derive(Clone, Copy)]
-struct Pair {
-    value: f32,
+struct Pair<V = f32> {
+    value: V,
     status: u8,
+}
+
+impl<V: Value> Pair<V> {
+    const FRESH: Pair<V> = Pair { value: V::ZERO, status: PASSIVE };
+    const SET_BY_NO_ONE: Pair<V> = Pair { value: V::ZERO, status: SET_BY_NO_ONE };
 }
 
 #[derive(Clone, Copy)]
@@ -107,7 +146,7 @@ impl Table {
     }
 }
 
-/// What blocks 1 to 3 have alike.
+/// What blocks 1 to 5 have alike.
 #[derive(Clone)]
 struct Common {
     st_rev: u16,
@@ -168,27 +207,63 @@ struct Tot {
 
 /// The telegrams of one setpoint input since start.
 #[derive(Clone)]
-struct Input {
-    last_usable: Option<f32>,
+struct Input<V> {
+    last_usable: Option<V>,
     /// Ticks made when it came.
     came: u64,
     /// O5: an IFS came, and no usable one after it.
     ifs: bool,
 }
 
+impl<V> Input<V> {
+    const SILENT: Input<V> = Input { last_usable: None, came: 0, ifs: false };
+}
+
+/// What is driven, and so how a setpoint becomes OUT.
+trait Drive {
+    type Value: Value;
+
+    fn out(&self, w: Self::Value) -> Self::Value;
+}
+
 #[derive(Clone)]
-struct Ao {
-    common: Common,
-    out: Pair,
-    operator: Pair,
+struct Valve {
     pv_scale: Scale,
     out_scale: Scale,
+    increase_close: u8,
+}
+
+#[derive(Clone)]
+struct Sluice {
+    invert: u8,
+}
+
+/// AO with its valve, or DO with its sluice: OUT is OUT_D there, and FSAFE_VALUE is FSAFE_VAL_D.
+#[derive(Clone)]
+struct Output<D: Drive> {
+    common: Common,
+    out: Pair<D::Value>,
+    operator: Pair<D::Value>,
+    drive: D,
     fsafe_time: u32,
     fsafe_type: u8,
-    fsafe_value: f32,
-    increase_close: u8,
-    inputs: [Input; 2],
+    fsafe_value: D::Value,
+    inputs: [Input<D::Value>; 2],
     ticks: u64,
+}
+
+type Ao = Output<Valve>;
+type Dout = Output<Sluice>;
+
+#[derive(Clone)]
+struct Di {
+    common: Common,
+    out_d: Pair<u8>,
+    operator: Pair<u8>,
+    invert: u8,
+    fsafe_type: u8,
+    fsafe_val_d: u8,
+    last_usable: Option<u8>,
 }
 
 #[derive(Clone)]
@@ -197,20 +272,44 @@ pub struct Model {
     ain: Ain,
     tot: Tot,
     ao: Ao,
+    di: Di,
+    dout: Dout,
 }
 
-/// A5: by quality 3, by quality 0, by a value that is not finite.
-fn bad_status(value: f32, status: u8) -> Option<u8> {
+/// A5: by quality 3, by quality 0, by a value that is not finite, or not 0 or 1.
+fn bad_status<V: Value>(value: V, status: u8) -> Option<u8> {
     match status >> 6 {
         3 => Some(0x04),
         0 => Some(status),
-        _ if !value.is_finite() => Some(0x10),
+        _ if !value.is_value() => Some(V::BAD),
         _ => None,
     }
 }
 
+/// AIN and DI in an Auto tick that is not usable. `value` is the input's, scaled or inverted, and may be none; `old` is
+/// OUT's.
+fn fail_safe<V: Value>(fsafe_type: u8, fsafe_value: V, last_usable: Option<V>, value: V, old: V, bad: u8) -> Pair<V> {
+    match fsafe_type {
+        0 => Pair { value: fsafe_value, status: 0x48 },
+        1 => match last_usable {
+            Some(value) => Pair { value, status: 0x44 },
+            None => Pair { value: V::ZERO, status: 0x4C },
+        },
+        _ => Pair { value: if value.is_value() { value } else { old }, status: bad },
+    }
+}
+
+/// "INVERT exchanges 0 and 1"
+fn inverted(value: u8, invert: u8) -> u8 {
+    match (invert, value) {
+        (1, 0) => 1,
+        (1, 1) => 0,
+        _ => value,
+    }
+}
+
 impl Ain {
-    fn tick(&mut self, fault: bool, bits: u32, status: u8) {
+    fn tick(&mut self, fault: bool, (bits, status): (u32, u8)) {
         match self.common.set_actual(fault) {
             OUT_OF_SERVICE => {
                 self.out.status = PASSIVE;
@@ -246,14 +345,7 @@ impl Ain {
             }
             return;
         };
-        self.out = match self.fsafe_type {
-            0 => Pair { value: self.fsafe_value, status: 0x48 },
-            1 => match self.last_usable {
-                Some(value) => Pair { value, status: 0x44 },
-                None => Pair { value: 0.0, status: 0x4C },
-            },
-            _ => Pair { value: if scaled.is_finite() { scaled } else { self.out.value }, status: bad },
-        };
+        self.out = fail_safe(self.fsafe_type, self.fsafe_value, self.last_usable, scaled, self.out.value, bad);
         self.move_alarms();
     }
 
@@ -313,7 +405,7 @@ fn given_value(total: i64) -> f32 {
 }
 
 impl Tot {
-    fn tick(&mut self, fault: bool, bits: u32, status: u8) {
+    fn tick(&mut self, fault: bool, (bits, status): (u32, u8)) {
         self.given.status = match self.common.set_actual(fault) {
             OUT_OF_SERVICE => {
                 self.given.status = PASSIVE;
@@ -364,8 +456,43 @@ impl Tot {
     }
 }
 
-impl Ao {
-    fn tick(&mut self, fault: bool) -> Order {
+impl Drive for Valve {
+    type Value = f32;
+
+    fn out(&self, w: f32) -> f32 {
+        let mut f = self.pv_scale.fraction(w);
+        if self.increase_close == 1 {
+            f = 1.0 - f;
+        }
+        self.out_scale.value(f)
+    }
+}
+
+/// w is 0 or 1, and so is OUT_D.
+impl Drive for Sluice {
+    type Value = u8;
+
+    fn out(&self, w: u8) -> u8 {
+        inverted(w, self.invert)
+    }
+}
+
+impl<D: Drive> Output<D> {
+    fn fresh(drive: D, fsafe_type: u8) -> Output<D> {
+        Output {
+            common: Common::FRESH,
+            out: Pair::FRESH,
+            operator: Pair::SET_BY_NO_ONE,
+            drive,
+            fsafe_time: 0,
+            fsafe_type,
+            fsafe_value: D::Value::ZERO,
+            inputs: [Input::SILENT; 2],
+            ticks: 0,
+        }
+    }
+
+    fn tick(&mut self, fault: bool) -> Order<D::Value> {
         let now = self.ticks;
         self.ticks += 1;
         match self.common.set_actual(fault) {
@@ -375,13 +502,13 @@ impl Ao {
             }
             MAN => {
                 self.out = self.operator;
-                Order::Position(self.out.value.to_bits())
+                Order::Position(self.out.value)
             }
             actual => self.follow(usize::from(actual == RCAS), now),
         }
     }
 
-    fn follow(&mut self, index: usize, now: u64) -> Order {
+    fn follow(&mut self, index: usize, now: u64) -> Order<D::Value> {
         let input = &self.inputs[index];
         let silent = now - input.came > u64::from(self.fsafe_time);
         let (w, status) = match input.last_usable {
@@ -391,7 +518,7 @@ impl Ao {
                 (1, Some(value)) => (value, 0x44),
                 (1, None) => {
                     self.out.status = 0x4C;
-                    return Order::Position(self.out.value.to_bits());
+                    return Order::Position(self.out.value);
                 }
                 _ => {
                     self.out.status = 0x00;
@@ -399,32 +526,55 @@ impl Ao {
                 }
             },
         };
-        let mut f = self.pv_scale.fraction(w);
-        if self.increase_close == 1 {
-            f = 1.0 - f;
-        }
-        let value = self.out_scale.value(f);
-        if value.is_finite() {
+        let value = self.drive.out(w);
+        if value.is_value() {
             self.out = Pair { value, status };
         } else {
             self.out.status = 0x04;
         }
-        Order::Position(self.out.value.to_bits())
+        Order::Position(self.out.value)
     }
 
-    fn telegram(&mut self, index: usize, value: f32, status: u8) {
+    fn telegram(&mut self, index: usize, value: D::Value, status: u8) {
         if status >> 6 < 2 {
             return;
         }
         if status >> 2 & 15 == 8 {
             self.inputs[index].ifs = true;
-        } else if value.is_finite() {
+        } else if value.is_value() {
             self.inputs[index] = Input { last_usable: Some(value), came: self.ticks, ifs: false };
         }
     }
+
+    fn set_target(&mut self, words: Words) -> Result<(), u8> {
+        let target = words.mode(true)?;
+        self.operator = operators_pair(self.common.target, target, self.out, self.operator);
+        self.common.target = target;
+        Ok(())
+    }
 }
 
-const NO_TELEGRAM: Input = Input { last_usable: None, came: 0, ifs: false };
+impl Di {
+    fn tick(&mut self, fault: bool, (value, status): (u8, u8)) {
+        match self.common.set_actual(fault) {
+            OUT_OF_SERVICE => self.out_d.status = PASSIVE,
+            MAN => self.out_d = self.operator,
+            _ => self.auto(value, status),
+        }
+    }
+
+    /// The last usable value is kept as it was given, inverted or not.
+    fn auto(&mut self, input: u8, status: u8) {
+        let value = inverted(input, self.invert);
+        self.out_d = match bad_status(input, status) {
+            None => {
+                self.last_usable = Some(value);
+                Pair { value, status }
+            }
+            Some(bad) => fail_safe(self.fsafe_type, self.fsafe_val_d, self.last_usable, value, self.out_d.value, bad),
+        };
+    }
+}
 
 /// The two words of a write, given out as what they stand for, or refused as 5.
 #[derive(Clone, Copy)]
@@ -458,6 +608,14 @@ impl Words {
         Ok(Pair { value, status: u8::try_from(self.1).map_err(|_| 5)? })
     }
 
+    /// OUT_D: 0 or 1 and a status.
+    fn discrete(self) -> Result<Pair<u8>, u8> {
+        match (u8::try_from(self.0), u8::try_from(self.1)) {
+            (Ok(value), Ok(status)) if value.is_value() => Ok(Pair { value, status }),
+            _ => Err(5),
+        }
+    }
+
     fn mode(self, with_rcas: bool) -> Result<u8, u8> {
         match self.one()? {
             word @ (0x80 | 0x10 | 0x08) => Ok(word as u8),
@@ -487,14 +645,15 @@ enum Class {
 /// Grounds 1 and 2.
 fn class(block: u8, parameter: u8) -> Result<Class, u8> {
     match (block, parameter) {
-        (1..=3, 1 | 6) | (1, 7) => Ok(Class::ReadOnly),
-        (1..=3, 5) => Ok(Class::Static),
+        (1..=5, 1 | 6) | (1, 7) => Ok(Class::ReadOnly),
+        (1..=5, 5) => Ok(Class::Static),
         (1, 11..=13 | 16..=19 | 21 | 23 | 25 | 27) => Ok(Class::Static),
         (2, 15 | 16) => Ok(Class::Static),
         (3, 11 | 23..=25 | 36 | 38) => Ok(Class::Static),
+        (4 | 5, 15 | 20 | 21) | (5, 22) => Ok(Class::Static),
         (0, 18) | (2, 10 | 13 | 14) => Ok(Class::Kept),
-        (1, 10) | (3, 37) => Ok(Class::Dynamic),
-        (0..=3, _) => Err(2),
+        (1, 10) | (3, 37) | (4 | 5, 10) => Ok(Class::Dynamic),
+        (0..=5, _) => Err(2),
         _ => Err(1),
     }
 }
@@ -504,9 +663,9 @@ fn only_in_man(target: u8) -> Result<(), u8> {
     (target == MAN).then_some(()).ok_or(6)
 }
 
-/// Request 2, for AIN and AO: the operator's pair after an accepted write of the target. Where that changes it to Man
-/// from another target, it is the pair last given, as a read of OUT gives it, 0x1F too. Otherwise it stays.
-fn operators_pair(old: u8, new: u8, given: Pair, operator: Pair) -> Pair {
+/// Request 2, for AIN, AO, DI and DO: the operator's pair after an accepted write of the target. Where that changes it
+/// to Man from another target, it is the pair last given, as a read of OUT gives it, 0x1F too. Otherwise it stays.
+fn operators_pair<V>(old: u8, new: u8, given: Pair<V>, operator: Pair<V>) -> Pair<V> {
     if new == MAN && old != MAN {
         given
     } else {
@@ -516,14 +675,13 @@ fn operators_pair(old: u8, new: u8, given: Pair, operator: Pair) -> Pair {
 
 impl Model {
     pub fn factory() -> Model {
-        let fresh = Pair { value: 0.0, status: PASSIVE };
         Model {
             write_locking: 2457,
             ain: Ain {
                 common: Common::FRESH,
                 alarms: 0,
-                out: fresh,
-                operator: SET_BY_NO_ONE,
+                out: Pair::FRESH,
+                operator: Pair::SET_BY_NO_ONE,
                 pv_scale: Scale::DEFAULT,
                 out_scale: Scale::DEFAULT,
                 lin_type: 0,
@@ -541,8 +699,8 @@ impl Model {
             },
             tot: Tot {
                 common: Common::FRESH,
-                given: fresh,
-                operator_status: SET_BY_NO_ONE.status,
+                given: Pair::FRESH,
+                operator_status: SET_BY_NO_ONE,
                 set_tot: 0,
                 mode_tot: 0,
                 fail_tot: 0,
@@ -550,54 +708,59 @@ impl Model {
                 total: 0,
                 last_increment: None,
             },
-            ao: Ao {
+            ao: Output::fresh(Valve { pv_scale: Scale::DEFAULT, out_scale: Scale::DEFAULT, increase_close: 0 }, 1),
+            di: Di {
                 common: Common::FRESH,
-                out: fresh,
-                operator: SET_BY_NO_ONE,
-                pv_scale: Scale::DEFAULT,
-                out_scale: Scale::DEFAULT,
-                fsafe_time: 0,
-                fsafe_type: 1,
-                fsafe_value: 0.0,
-                increase_close: 0,
-                inputs: [NO_TELEGRAM; 2],
-                ticks: 0,
+                out_d: Pair::FRESH,
+                operator: Pair::SET_BY_NO_ONE,
+                invert: 0,
+                fsafe_type: 0,
+                fsafe_val_d: 0,
+                last_usable: None,
             },
+            dout: Output::fresh(Sluice { invert: 0 }, 0),
         }
     }
 
-    pub fn tick(&mut self, fault: bool, ain_bits: u32, ain_status: u8, tot_bits: u32, tot_status: u8) -> Order {
-        self.ain.tick(fault, ain_bits, ain_status);
-        self.tot.tick(fault, tot_bits, tot_status);
-        self.ao.tick(fault)
+    pub fn tick(&mut self, fault: bool, ain: (u32, u8), tot: (u32, u8), di: (u8, u8)) -> Orders {
+        self.ain.tick(fault, ain);
+        self.tot.tick(fault, tot);
+        self.di.tick(fault, di);
+        Orders { ao: self.ao.tick(fault).map(f32::to_bits), dout: self.dout.tick(fault) }
     }
 
     pub fn telegram(&mut self, input: u8, bytes: &[u8]) -> Result<(), u8> {
-        if input > 1 {
-            return Err(8);
+        match (input, bytes) {
+            (0 | 1, &[a, b, c, d, status]) => self.ao.telegram(input.into(), f32::from_be_bytes([a, b, c, d]), status),
+            (2 | 3, &[value, status]) => self.dout.telegram(usize::from(input) - 2, value, status),
+            (0..=3, _) => return Err(7),
+            _ => return Err(8),
         }
-        let &[a, b, c, d, status] = bytes else { return Err(7) };
-        self.ao.telegram(input.into(), f32::from_be_bytes([a, b, c, d]), status);
         Ok(())
     }
 
     /// R17: what a warm start forgets. Under target Man too the operator's pairs are the fresh ones after it.
     pub fn warm_start(&mut self) {
-        let Model { ain, tot, ao, .. } = self;
-        for common in [&mut ain.common, &mut tot.common, &mut ao.common] {
+        let Model { ain, tot, ao, di, dout, .. } = self;
+        for common in [&mut ain.common, &mut tot.common, &mut ao.common, &mut di.common, &mut dout.common] {
             common.actual = OUT_OF_SERVICE;
         }
-        for out in [&mut ain.out, &mut tot.given, &mut ao.out] {
-            out.status = PASSIVE;
+        let outputs = [&mut ain.out.status, &mut tot.given.status, &mut ao.out.status];
+        for status in outputs.into_iter().chain([&mut di.out_d.status, &mut dout.out.status]) {
+            *status = PASSIVE;
         }
-        ain.operator = SET_BY_NO_ONE;
-        tot.operator_status = SET_BY_NO_ONE.status;
-        ao.operator = SET_BY_NO_ONE;
+        ain.operator = Pair::SET_BY_NO_ONE;
+        tot.operator_status = SET_BY_NO_ONE;
+        ao.operator = Pair::SET_BY_NO_ONE;
+        di.operator = Pair::SET_BY_NO_ONE;
+        dout.operator = Pair::SET_BY_NO_ONE;
         ain.alarms = 0;
         ain.filter = None;
         ain.last_usable = None;
         tot.last_increment = None;
-        ao.inputs = [NO_TELEGRAM; 2];
+        ao.inputs = [Input::SILENT; 2];
+        di.last_usable = None;
+        dout.inputs = [Input::SILENT; 2];
     }
 
     pub fn write(&mut self, block: u8, parameter: u8, w1: u32, w2: u32) -> Result<(), u8> {
@@ -619,7 +782,9 @@ impl Model {
             }
             1 => self.ain.write(parameter, words)?,
             2 => self.tot.write(parameter, words)?,
-            _ => self.ao.write(parameter, words)?,
+            3 => self.ao.write(parameter, words)?,
+            4 => self.di.write(parameter, words)?,
+            _ => self.dout.write(parameter, words)?,
         };
         if class == Class::Static {
             common.count();
@@ -642,7 +807,9 @@ impl Model {
             0 => return Ok((self.write_locking, 0)),
             1 => &self.ain.common,
             2 => &self.tot.common,
-            _ => &self.ao.common,
+            3 => &self.ao.common,
+            4 => &self.di.common,
+            _ => &self.dout.common,
         };
         Ok(match (block, parameter) {
             (_, 1) => (common.st_rev.into(), 0),
@@ -650,24 +817,35 @@ impl Model {
             (_, 6) => (common.actual.into(), 0),
             (1, _) => self.ain.read(parameter),
             (2, _) => self.tot.read(parameter),
-            _ => self.ao.read(parameter),
+            (3, _) => self.ao.read(parameter),
+            (4, _) => self.di.read(parameter),
+            _ => self.dout.read(parameter),
         })
     }
 
     pub fn image(&self, buf: &mut [u8]) -> Result<(), u8> {
-        if buf.len() < 15 {
+        if buf.len() < IMAGE_BYTES {
             return Err(7);
         }
-        for (part, pair) in buf.chunks_exact_mut(5).zip([self.ain.out, self.tot.given, self.ao.out]) {
+        let (analog, discrete) = buf.split_at_mut(15);
+        for (part, pair) in analog.chunks_exact_mut(5).zip([self.ain.out, self.tot.given, self.ao.out]) {
             part[..4].copy_from_slice(&pair.value.to_be_bytes());
             part[4] = pair.status;
+        }
+        for (part, pair) in discrete.chunks_exact_mut(2).zip([self.di.out_d, self.dout.out]) {
+            part.copy_from_slice(&[pair.value, pair.status]);
         }
         Ok(())
     }
 
     pub fn part(block: u8, buf: &[u8]) -> &[u8] {
-        match usize::from(block) {
-            block @ 1..=3 if buf.len() >= 15 => &buf[5 * block - 5..5 * block],
+        match block {
+            _ if buf.len() < IMAGE_BYTES => &buf[..0],
+            1 => &buf[..5],
+            2 => &buf[5..10],
+            3 => &buf[10..15],
+            4 => &buf[15..17],
+            5 => &buf[17..19],
             _ => &buf[..0],
         }
     }
@@ -769,22 +947,54 @@ impl Tot {
 impl Ao {
     fn write(&mut self, parameter: u8, words: Words) -> Result<&mut Common, u8> {
         match parameter {
-            5 => {
-                let target = words.mode(true)?;
-                self.operator = operators_pair(self.common.target, target, self.out, self.operator);
-                self.common.target = target;
-            }
-            11 => self.pv_scale = words.scale()?,
+            5 => self.set_target(words)?,
+            11 => self.drive.pv_scale = words.scale()?,
             23 => self.fsafe_time = words.up_to(65_535)?,
             24 => self.fsafe_type = words.code(2)?,
             25 => self.fsafe_value = words.float(f32::is_finite)?,
-            36 => self.increase_close = words.code(1)?,
+            36 => self.drive.increase_close = words.code(1)?,
             37 => {
                 let pair = words.pair(f32::is_finite)?;
                 only_in_man(self.common.target)?;
                 self.operator = pair;
             }
-            38 => self.out_scale = words.scale()?,
+            38 => self.drive.out_scale = words.scale()?,
+            _ => unreachable!("class has named the parameters"),
+        }
+        Ok(&mut self.common)
+    }
+
+    fn read(&self, parameter: u8) -> (u32, u32) {
+        let Valve { pv_scale, out_scale, increase_close } = &self.drive;
+        match parameter {
+            11 => (pv_scale.low.to_bits(), pv_scale.high.to_bits()),
+            23 => (self.fsafe_time, 0),
+            24 => (self.fsafe_type.into(), 0),
+            25 => (self.fsafe_value.to_bits(), 0),
+            36 => ((*increase_close).into(), 0),
+            37 => (self.out.value.to_bits(), self.out.status.into()),
+            38 => (out_scale.low.to_bits(), out_scale.high.to_bits()),
+            _ => unreachable!("class has named the parameters"),
+        }
+    }
+}
+
+impl Di {
+    fn write(&mut self, parameter: u8, words: Words) -> Result<&mut Common, u8> {
+        match parameter {
+            5 => {
+                let target = words.mode(false)?;
+                self.operator = operators_pair(self.common.target, target, self.out_d, self.operator);
+                self.common.target = target;
+            }
+            10 => {
+                let pair = words.discrete()?;
+                only_in_man(self.common.target)?;
+                self.operator = pair;
+            }
+            15 => self.invert = words.code(1)?,
+            20 => self.fsafe_type = words.code(2)?,
+            21 => self.fsafe_val_d = words.code(1)?,
             _ => unreachable!("class has named the parameters"),
         }
         Ok(&mut self.common)
@@ -792,13 +1002,40 @@ impl Ao {
 
     fn read(&self, parameter: u8) -> (u32, u32) {
         match parameter {
-            11 => (self.pv_scale.low.to_bits(), self.pv_scale.high.to_bits()),
-            23 => (self.fsafe_time, 0),
-            24 => (self.fsafe_type.into(), 0),
-            25 => (self.fsafe_value.to_bits(), 0),
-            36 => (self.increase_close.into(), 0),
-            37 => (self.out.value.to_bits(), self.out.status.into()),
-            38 => (self.out_scale.low.to_bits(), self.out_scale.high.to_bits()),
+            10 => (self.out_d.value.into(), self.out_d.status.into()),
+            15 => (self.invert.into(), 0),
+            20 => (self.fsafe_type.into(), 0),
+            21 => (self.fsafe_val_d.into(), 0),
+            _ => unreachable!("class has named the parameters"),
+        }
+    }
+}
+
+impl Dout {
+    fn write(&mut self, parameter: u8, words: Words) -> Result<&mut Common, u8> {
+        match parameter {
+            5 => self.set_target(words)?,
+            10 => {
+                let pair = words.discrete()?;
+                only_in_man(self.common.target)?;
+                self.operator = pair;
+            }
+            15 => self.drive.invert = words.code(1)?,
+            20 => self.fsafe_type = words.code(2)?,
+            21 => self.fsafe_value = words.code(1)?,
+            22 => self.fsafe_time = words.up_to(65_535)?,
+            _ => unreachable!("class has named the parameters"),
+        }
+        Ok(&mut self.common)
+    }
+
+    fn read(&self, parameter: u8) -> (u32, u32) {
+        match parameter {
+            10 => (self.out.value.into(), self.out.status.into()),
+            15 => (self.drive.invert.into(), 0),
+            20 => (self.fsafe_type.into(), 0),
+            21 => (self.fsafe_value.into(), 0),
+            22 => (self.fsafe_time, 0),
             _ => unreachable!("class has named the parameters"),
         }
     }
@@ -809,8 +1046,8 @@ impl Head for Model {
         *self = Model::factory();
     }
 
-    fn tick(&mut self, fault: bool, ain_bits: u32, ain_status: u8, tot_bits: u32, tot_status: u8) -> Order {
-        self.tick(fault, ain_bits, ain_status, tot_bits, tot_status)
+    fn tick(&mut self, fault: bool, ain: (u32, u8), tot: (u32, u8), di: (u8, u8)) -> Orders {
+        self.tick(fault, ain, tot, di)
     }
 
     fn telegram(&mut self, input: u8, bytes: &[u8]) -> Result<(), u8> {

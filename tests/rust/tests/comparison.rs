@@ -2,7 +2,7 @@
 
 use std::collections::{BTreeMap, BTreeSet};
 
-use comparison::calls::{parse, Answer, Call, Head, Line, Order};
+use comparison::calls::{parse, Answer, Call, Head, Line, Order, Orders};
 use comparison::compare::{compare, run, shrink};
 use comparison::histories::{histories, history, HISTORIES};
 use comparison::model::Model;
@@ -42,22 +42,33 @@ fn histories_reach_all_cases() {
     for history in histories(1, HISTORIES) {
         let mut head = Model::factory();
         let (mut table, mut age) = (Vec::new(), 0);
-        let mut by_hand = [ByHand::default(); 2];
+        let mut by_hand = [ByHand::default(); 4];
+        let mut contact = Contact::default();
+        let mut heard = [Heard::default(); 2];
         let long = history.len() > 10_000;
         for call in history {
-            let targets = ANALOG.map(|(block, _)| head.read(block, 5).unwrap().0);
+            let targets = BY_HAND.map(|(block, _)| head.read(block, 5).unwrap().0);
             let answer = call.on(&mut head);
             let mut see = |what: String| *seen.entry(what).or_default() += 1;
-            for ((block, out), (target, man)) in ANALOG.into_iter().zip(targets.into_iter().zip(&mut by_hand)) {
+            for ((block, out), (target, man)) in BY_HAND.into_iter().zip(targets.into_iter().zip(&mut by_hand)) {
                 for what in man.after(&call, answer, &head, block, out, target) {
                     see(format!("block {block} {what}"));
                 }
             }
+            contact.after(&call, &head).into_iter().for_each(&mut see);
+            for (input, heard) in heard.iter_mut().enumerate() {
+                heard.after(&call, &head, input as u8).into_iter().for_each(&mut see);
+            }
             match (&call, answer) {
                 (Call::Load(_), Answer::Refused(number)) => see(format!("load refused {number}")),
+                (Call::Write(block, ..), Answer::Refused(number)) if *block > 3 && number > 1 => {
+                    see(format!("write to block {block} refused {number}"));
+                }
                 (_, Answer::Refused(number)) => see(format!("refused {number}")),
-                (_, Answer::Order(Order::Position(_))) => see("position".into()),
-                (_, Answer::Order(order)) => see(format!("{order:?}")),
+                (_, Answer::Orders(Orders { ao, dout })) => {
+                    see(format!("AO {:?}", ao.map(|_| ())));
+                    see(format!("DO {dout:?}"));
+                }
                 (&Call::Write(block, parameter, ..), Answer::Ok) => _ = accepted.insert((block, parameter)),
                 (Call::Load(bytes), Answer::Ok) => {
                     see(format!("load of {} pairs", bytes.len() / 8));
@@ -75,8 +86,11 @@ fn histories_reach_all_cases() {
                     writes += 1;
                     refused_writes += usize::from(answer != Answer::Ok);
                 }
+                Call::Telegram(input, bytes) => see(format!("telegram of {} bytes on input {input}", bytes.len())),
+                Call::Image(length) => see(format!("image of {length} bytes")),
+                Call::Part(block, length) => see(format!("part {block} of {length} bytes")),
                 Call::Tick { ain, .. } => {
-                    for (block, parameter) in [(1, 10), (2, 10), (3, 37)] {
+                    for (block, parameter) in [(1, 10), (2, 10), (3, 37), (4, 10), (5, 10)] {
                         let mode = head.read(block, 6).unwrap().0;
                         see(format!("block {block} in {mode:02X}"));
                         if mode & 0x0A != 0 {
@@ -114,34 +128,54 @@ fn histories_reach_all_cases() {
             wanted.extend((0..4).map(|quality| format!("{filter}, type {fsafe_type}, quality {quality} by the table")));
         }
     }
-    wanted.extend(["position", "Safe", "Rest", "end of the total 1", "end of the total -1"].map(String::from));
+    wanted.extend(
+        ["AO Position(())", "AO Safe", "AO Rest", "end of the total 1", "end of the total -1"].map(String::from),
+    );
+    wanted.extend(["DO Position(0)", "DO Position(1)", "DO Safe", "DO Rest"].map(String::from));
+    for block in [4, 5] {
+        wanted.extend((2..=6).map(|number| format!("write to block {block} refused {number}")));
+    }
+    for (input, length) in (0..5).flat_map(|input| [0, 1, 2, 3, 4, 5, 6].map(|length| (input, length))) {
+        wanted.push(format!("telegram of {length} bytes on input {input}"));
+    }
+    wanted.extend([14, 15, 17, 18, 19, 20].map(|length| format!("image of {length} bytes")));
+    for block in 0..7 {
+        wanted.extend([15, 18, 19, 20].map(|length| format!("part {block} of {length} bytes")));
+    }
+    wanted.extend(Contact::all());
+    wanted.extend(Heard::all());
     wanted.extend((0..16).map(|alarms| format!("alarms {alarms}")));
     wanted.extend((0..256).map(|status| format!("input status {status}")));
-    let modes =
-        [(1, 0x80), (1, 0x10), (1, 0x08), (2, 0x80), (2, 0x10), (2, 0x08), (3, 0x80), (3, 0x10), (3, 0x08), (3, 0x02)];
-    wanted.extend(modes.map(|(block, mode)| format!("block {block} in {mode:02X}")));
+    for block in 1..=5 {
+        wanted.extend([0x80, 0x10, 0x08].map(|mode| format!("block {block} in {mode:02X}")));
+    }
+    wanted.extend([3, 5].map(|block| format!("block {block} in 02")));
     let ain = [0x8E, 0x8D, 0x8A, 0x89, 0x48, 0x44, 0x4C, 0x10, 0x04];
     wanted.extend(ain.map(|status| format!("block 1 status {status:02X}")));
     wanted.extend([0x40, 0x44, 0x4C, 0x10, 0x04, 0x80].map(|status| format!("block 2 status {status:02X}")));
     wanted.extend([0x80, 0x48, 0x44, 0x4C, 0x00, 0x04].map(|status| format!("block 3 status {status:02X}")));
-    for (block, targets) in [(1, &[0x08, 0x80][..]), (3, &[0x08, 0x02, 0x80])] {
+    wanted.extend([0x48, 0x44, 0x4C, 0x04, 0x80, 0x40].map(|status| format!("block 4 status {status:02X}")));
+    wanted.extend([0x80, 0x48, 0x44, 0x4C, 0x00].map(|status| format!("block 5 status {status:02X}")));
+    let with_rcas = &[0x08, 0x02, 0x80][..];
+    for (block, targets) in [(1, &[0x08, 0x80][..]), (3, with_rcas), (4, &[0x08, 0x80]), (5, with_rcas)] {
         wanted.extend(targets.iter().map(|target| format!("block {block} into Man from {target:02X}")));
         wanted.extend(IN_MAN.map(|what| format!("block {block} {what}")));
     }
-    for what in wanted {
-        let times = seen.get(&what).copied().unwrap_or(0);
-        assert!(times >= 100, "{what}: {times} times");
-    }
-    assert_eq!(accepted.len(), 1 + 13 + 6 + 8, "every parameter but those that are R: {accepted:?}");
+    let times = |what: &String| seen.get(what).copied().unwrap_or(0);
+    let seldom: Vec<_> = wanted.iter().filter(|what| times(what) < 100).map(|what| (what, times(what))).collect();
+    assert!(seldom.is_empty(), "of {} cases less than 100 times: {seldom:#?}", wanted.len());
+    println!("{} cases", wanted.len());
+    assert_eq!(wanted.iter().collect::<BTreeSet<_>>().len(), wanted.len(), "each case once");
+    assert_eq!(accepted.len(), 1 + 13 + 6 + 8 + 5 + 6, "every parameter but those that are R: {accepted:?}");
     assert!(refused_writes * 2 < writes, "{refused_writes} of {writes} writes refused");
     assert!(young * 3 < replaced, "{young} of {replaced} tables replaced soon");
     assert!(linearised >= 500_000, "{linearised} ticks by a table");
 }
 
-/// AIN and AO with the number of OUT.
-const ANALOG: [(u8, u8); 2] = [(1, 10), (3, 37)];
+/// AIN, AO, DI and DO with the number of OUT.
+const BY_HAND: [(u8, u8); 4] = [(1, 10), (3, 37), (4, 10), (5, 10)];
 
-/// What is to be seen of both in Man, besides the targets from which they enter it.
+/// What is to be seen of each of them in Man, besides the targets from which they enter it.
 const IN_MAN: [&str; 8] = [
     "into Man under 1F",
     "into Man again without a tick",
@@ -202,6 +236,146 @@ impl ByHand {
     }
 }
 
+/// DI's last usable value since start, by the calls alone.
+#[derive(Clone, Copy, Default)]
+struct Contact {
+    last_usable: Option<u8>,
+}
+
+/// What DI's input is, by its quality and value.
+fn input_of_di((value, status): (u8, u8)) -> String {
+    format!("quality {}, {}", status >> 6, if value > 1 { "over 1" } else { "0 or 1" })
+}
+
+/// What it does with it: the input when it is not usable, FSAFE_TYPE, INVERT and whether there is a last usable value.
+fn failed(input: &str, fsafe_type: u32, invert: u32, last: Option<u8>) -> String {
+    let last = if last.is_some() { "a last value" } else { "none" };
+    format!("DI {input}: type {fsafe_type}, INVERT {invert}, {last}")
+}
+
+impl Contact {
+    /// What is to be seen of a call: an Auto tick of DI.
+    fn after(&mut self, call: &Call, head: &Model) -> Option<String> {
+        let word = |parameter| head.read(4, parameter).unwrap().0;
+        match *call {
+            Call::Factory | Call::Warm => *self = Contact::default(),
+            Call::Tick { di, .. } if word(6) == 0x08 => {
+                let (input, invert) = (input_of_di(di), word(15));
+                if di.0 > 1 || !(1..=2).contains(&(di.1 >> 6)) {
+                    return Some(failed(&input, word(20), invert, self.last_usable));
+                }
+                self.last_usable = Some(di.0);
+                return Some(format!("DI {input}: {}, INVERT {invert}", di.0));
+            }
+            _ => {}
+        }
+        None
+    }
+
+    fn all() -> Vec<String> {
+        let mut all = Vec::new();
+        for (quality, invert) in (0..4).flat_map(|quality| [(quality, 0), (quality, 1)]) {
+            let [one, over] = [1, 2].map(|value| input_of_di((value, quality << 6)));
+            let usable = quality == 1 || quality == 2;
+            if usable {
+                all.extend([0, 1].map(|value| format!("DI {one}: {value}, INVERT {invert}")));
+            }
+            for (input, fsafe_type) in [&one, &over].into_iter().skip(usize::from(usable)).flat_map(each_type) {
+                all.extend([Some(0), None].map(|last| failed(input, fsafe_type, invert, last)));
+            }
+        }
+        all
+    }
+}
+
+/// The same with each FSAFE_TYPE.
+fn each_type<T: Copy>(what: T) -> [(T, u32); 3] {
+    [0, 1, 2].map(|fsafe_type| (what, fsafe_type))
+}
+
+/// The telegrams on SP_D or RCAS_IN_D since start, by the calls alone.
+#[derive(Clone, Copy, Default)]
+struct Heard {
+    usable: bool,
+    n: u32,
+    ifs: bool,
+}
+
+const CAUSES: [&str; 5] = ["no telegram", "IFS alone", "silence", "IFS", "IFS and silence"];
+
+/// A telegram to DO by what its status and its value are.
+fn telegram_to_do(value: u8, status: u8) -> String {
+    let class = match (status >> 6, status >> 2 & 15) {
+        (2 | 3, 8) => "IFS",
+        (2 | 3, _) => "good",
+        _ => "not good",
+    };
+    format!("{class}, {}", if value > 1 { "over 1" } else { "0 or 1" })
+}
+
+impl Heard {
+    /// What is to be seen of a call: a telegram on this input, or a tick that goes by it.
+    fn after(&mut self, call: &Call, head: &Model, input: u8) -> Vec<String> {
+        let word = |parameter| head.read(5, parameter).unwrap().0;
+        let mode = [0x08, 0x02][usize::from(input)];
+        let mut seen = Vec::new();
+        match *call {
+            Call::Factory | Call::Warm => *self = Heard::default(),
+            Call::Telegram(to, bytes) if to == 2 + input => {
+                let [value, status] = *bytes else { return seen };
+                let what = telegram_to_do(value, status);
+                match &*what {
+                    "good, 0 or 1" => *self = Heard { usable: true, ..Heard::default() },
+                    "IFS, 0 or 1" | "IFS, over 1" => self.ifs = true,
+                    _ => {}
+                }
+                seen.push(format!("DO in {mode:02X} hears {what}"));
+            }
+            Call::Tick { .. } => {
+                if word(6) == mode {
+                    let late = self.n > word(22);
+                    let cause = match (self.usable, self.ifs, late) {
+                        (false, false, _) => CAUSES[0],
+                        (false, true, _) => CAUSES[1],
+                        (true, false, true) => CAUSES[2],
+                        (true, true, false) => CAUSES[3],
+                        (true, true, true) => CAUSES[4],
+                        (true, false, false) => "",
+                    };
+                    let settings = format!("INVERT {}, FSAFE_VAL_D {}", word(15), word(21));
+                    seen.push(match cause {
+                        "" => format!("DO in {mode:02X} follows, INVERT {}, OUT_D {}", word(15), word(10)),
+                        _ => format!("DO in {mode:02X} by {cause}, type {}, {settings}", word(20)),
+                    });
+                    if self.usable && !self.ifs && [word(22), word(22) + 1].contains(&self.n) {
+                        seen.push(format!("DO in {mode:02X} at the end of FSAFE_TIME, late: {late}"));
+                    }
+                }
+                self.n += 1;
+            }
+            _ => {}
+        }
+        seen
+    }
+
+    fn all() -> Vec<String> {
+        let mut all = Vec::new();
+        for mode in ["08", "02"] {
+            for class in ["IFS", "good", "not good"] {
+                all.extend(["0 or 1", "over 1"].map(|value| format!("DO in {mode} hears {class}, {value}")));
+            }
+            all.extend([false, true].map(|late| format!("DO in {mode} at the end of FSAFE_TIME, late: {late}")));
+            for (invert, bit) in [(0, 0), (0, 1), (1, 0), (1, 1)] {
+                all.push(format!("DO in {mode} follows, INVERT {invert}, OUT_D {bit}"));
+                for (cause, kind) in CAUSES.into_iter().flat_map(each_type) {
+                    all.push(format!("DO in {mode} by {cause}, type {kind}, INVERT {invert}, FSAFE_VAL_D {bit}"));
+                }
+            }
+        }
+        all
+    }
+}
+
 /// The pairs of a load that was accepted.
 fn pairs(bytes: &[u8]) -> Vec<(f32, f32)> {
     let float = |at: &[u8]| f32::from_be_bytes(at.try_into().unwrap());
@@ -246,13 +420,13 @@ fn a_difference_is_shrunk() {
         fn factory(&mut self) {
             *self = Wrong(Model::factory(), 0);
         }
-        fn tick(&mut self, fault: bool, ain_bits: u32, ain_status: u8, tot_bits: u32, tot_status: u8) -> Order {
-            let order = self.0.tick(fault, ain_bits, ain_status, tot_bits, tot_status);
+        fn tick(&mut self, fault: bool, ain: (u32, u8), tot: (u32, u8), di: (u8, u8)) -> Orders {
+            let orders = self.0.tick(fault, ain, tot, di);
             self.1 += u32::from(self.0.read(1, 7) == Ok((2, 0)));
             if self.1 == 3 {
-                Order::Safe
+                Orders { ao: Order::Safe, ..orders }
             } else {
-                order
+                orders
             }
         }
         fn telegram(&mut self, input: u8, bytes: &[u8]) -> Result<(), u8> {
@@ -283,10 +457,9 @@ fn a_difference_is_shrunk() {
     let wrong = || -> Box<dyn Head> { Box::new(Wrong(Model::factory(), 0)) };
     let found = compare(&model, &wrong, histories(1, 20)).expect_err("a difference");
     assert_eq!(found.history.len(), 4, "{found}");
-    let tick = "tick 0 0x00000000 0x80 0x00000000 0x80\n";
-    let script =
-        format!("write 1 23 0x00000000 0x00000000\n{tick}{tick}{tick}# left:  position 0x00000000\n# right: safe\n");
-    assert_eq!(found.to_string(), script);
+    let tick = "tick 0 0x00000000 0x80 0x00000000 0x80 0 0x80\n";
+    let answers = "# left:  position 0x00000000 position 0\n# right: safe position 0\n";
+    assert_eq!(found.to_string(), format!("write 1 23 0x00000000 0x00000000\n{tick}{tick}{tick}{answers}"));
     // What is found may be played again and shrunk again, with no change.
     let again = run(&model, &wrong, &found.history).expect("the same");
     assert_eq!(shrink(&model, &wrong, again).history, found.history);

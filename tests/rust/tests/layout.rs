@@ -5,10 +5,11 @@ use std::collections::BTreeMap;
 use std::fs;
 use std::mem::offset_of;
 
-use comparison::archive::{AoBlock, Archive, Device, Kept, Pair, Point, Scale, LAYOUTS, PACKED_BYTES};
-use comparison::calls::{Head, Order};
+use comparison::archive::{Archive, Device, Discrete, DoBlock, Kept, KeptD, Pair, Point, Scale, LAYOUTS, PACKED_BYTES};
+use comparison::calls::{Head, Order, Orders};
 
-const CRATES: [&str; 9] = ["wire", "scaling", "linearisation", "blocks", "ain", "tot", "ao", "device", "capi"];
+const CRATES: [&str; 11] =
+    ["wire", "scaling", "linearisation", "blocks", "ain", "tot", "ao", "di", "dout", "device", "capi"];
 
 fn file(path: &str) -> String {
     fs::read_to_string(format!("../../{path}")).unwrap_or_else(|error| panic!("{path}: {error}"))
@@ -22,9 +23,13 @@ fn between<'a>(text: &'a str, open: &str, close: &str) -> Option<(&'a str, &'a s
 /// A struct of a crate, by its name in src/archive.rs.
 fn mirrored(of_crate: &str, name: &str) -> String {
     match (of_crate, name) {
-        ("ain" | "tot" | "ao", "Settings" | "State" | "Input") => {
+        ("ain" | "tot" | "ao" | "di", "Settings" | "State" | "Input") => {
             format!("{}{}{name}", of_crate[..1].to_uppercase(), &of_crate[1..])
         }
+        // `do` is a keyword, so the crate is `dout`; within a longer name it may stand.
+        ("dout", "Settings" | "State" | "Input") => format!("Do{name}"),
+        (_, "DoutBlock") => "DoBlock".into(),
+        ("di", "Kept") => "KeptD".into(),
         _ => name.into(),
     }
 }
@@ -162,8 +167,8 @@ fn the_archive_gives_as_many_bytes() {
     for room in &mut room {
         assert_eq!(unsafe { by_pointer::serkoviu_factory(room.as_mut_ptr()) }, room.as_mut_ptr());
     }
-    let last_field = offset_of!(Device, ao) + offset_of!(AoBlock, st_rev);
-    assert_eq!(room.map(|room| room[last_field..][..2].to_vec()), [[0, 0], [0, 0]], "ST_REV of AO, fresh");
+    let last_field = offset_of!(Device, dout) + offset_of!(DoBlock, st_rev);
+    assert_eq!(room.map(|room| room[last_field..][..2].to_vec()), [[0, 0], [0, 0]], "ST_REV of DO, fresh");
     assert_eq!(room.map(|room| room[SIZE..].to_vec()), [[0xA5; 64], [0x5A; 64]], "what lies behind the device");
 }
 
@@ -178,9 +183,11 @@ fn calls_keep_to_the_device() {
     }
     let mut room = Room { before: [0xA5; 64], head: Archive::factory(), after: [0x5A; 64] };
     let mut bytes = [0; PACKED_BYTES];
-    room.head.tick(false, 0, 0x80, 0, 0x80);
+    room.head.tick(false, (0, 0x80), (0, 0x80), (1, 0x80));
     room.head.telegram(0, &[0x42, 0x48, 0, 0, 0x80]).expect("five bytes");
+    room.head.telegram(3, &[1, 0x80]).expect("two bytes");
     room.head.write(3, 23, 7, 0).expect("a number of ticks");
+    room.head.write(5, 22, 7, 0).expect("a number of ticks");
     let pairs: Vec<u8> = (0..42u8).flat_map(|number| f32::from(number).to_be_bytes()).collect();
     room.head.load(&pairs).expect("21 pairs");
     room.head.warm_start();
@@ -190,6 +197,10 @@ fn calls_keep_to_the_device() {
 
 fn pair(value: f32, status: u8) -> Pair {
     Pair { bits: value.to_bits(), status }
+}
+
+fn discrete(value: u8, status: u8) -> Discrete {
+    Discrete { value, status }
 }
 
 fn scale(low: f32, high: f32) -> Scale {
@@ -217,9 +228,16 @@ fn the_archive_reads_each_field_where_it_is_declared() {
     (s.pv_scale, s.out_scale) = (scale(17.0, 18.0), scale(19.0, 20.0));
     (s.fsafe_time, s.fsafe_type, s.fsafe_value, s.increase_close) = (21_000, 0, 22.0, 1);
     (d.ao.state.out, d.ao.state.mode, d.ao.st_rev) = (pair(23.0, 0x83), 0x02, 2403);
+    // Words need not be allowed ones to be read: each has a value of its own.
+    let s = &mut d.di.settings;
+    (s.target, s.invert, s.fsafe_type, s.fsafe_val_d) = (0x11, 31, 32, 33);
+    (d.di.state.out, d.di.state.mode, d.di.st_rev) = (discrete(34, 0x84), 0x12, 3504);
+    let s = &mut d.dout.settings;
+    (s.target, s.invert, s.fsafe_type, s.fsafe_val_d, s.fsafe_time) = (0x13, 41, 42, 43, 44);
+    (d.dout.state.out, d.dout.state.mode, d.dout.st_rev) = (discrete(45, 0x85), 0x14, 4605);
 
     let float = |value: f32| value.to_bits();
-    let expected: [(u8, u8, u32, u32); 34] = [
+    let expected: [(u8, u8, u32, u32); 49] = [
         (0, 18, 0, 0),
         (1, 1, 1301, 0),
         (1, 5, 0x10, 0),
@@ -254,14 +272,30 @@ fn the_archive_reads_each_field_where_it_is_declared() {
         (3, 36, 1, 0),
         (3, 37, float(23.0), 0x83),
         (3, 38, float(19.0), float(20.0)),
+        (4, 1, 3504, 0),
+        (4, 5, 0x11, 0),
+        (4, 6, 0x12, 0),
+        (4, 10, 34, 0x84),
+        (4, 15, 31, 0),
+        (4, 20, 32, 0),
+        (4, 21, 33, 0),
+        (5, 1, 4605, 0),
+        (5, 5, 0x13, 0),
+        (5, 6, 0x14, 0),
+        (5, 10, 45, 0x85),
+        (5, 15, 41, 0),
+        (5, 20, 42, 0),
+        (5, 21, 43, 0),
+        (5, 22, 44, 0),
     ];
     for (block, parameter, first, second) in expected {
         assert_eq!(head.read(block, parameter), Ok((first, second)), "read {block} {parameter}");
     }
     assert_eq!(head.total(), -0x0123_4567_89AB);
-    let mut image = [0; 15];
+    let mut image = [0; 19];
     head.image(&mut image).expect("long enough");
-    assert_eq!(image, [0x41, 0x40, 0, 0, 0x81, 0x41, 0x70, 0, 0, 0x82, 0x41, 0xB8, 0, 0, 0x83]);
+    assert_eq!(image[..15], [0x41, 0x40, 0, 0, 0x81, 0x41, 0x70, 0, 0, 0x82, 0x41, 0xB8, 0, 0, 0x83]);
+    assert_eq!(image[15..], [34, 0x84, 45, 0x85]);
 
     for alarm in 0..4 {
         let mut head = Archive::factory();
@@ -277,8 +311,13 @@ fn the_archive_ticks_by_each_field_where_it_is_declared() {
     const BAD: (u32, u8) = (0, 0x00);
     let tick = |device: Device, ain: (u32, u8)| {
         let mut head = Archive { device };
-        let order = head.tick(false, ain.0, ain.1, BAD.0, BAD.1);
-        (head.device, order)
+        let Orders { ao, .. } = head.tick(false, ain, BAD, (0, 0x00));
+        (head.device, ao)
+    };
+    let discrete_tick = |device: Device, di: (u8, u8)| {
+        let mut head = Archive { device };
+        let Orders { dout, .. } = head.tick(false, BAD, BAD, di);
+        (head.device, dout)
     };
     let fresh = Archive::factory().device;
     let some = |value| Kept { some: true, value };
@@ -339,6 +378,39 @@ fn the_archive_ticks_by_each_field_where_it_is_declared() {
             let (next, order) = tick(d, BAD);
             assert_eq!((next.ao.state.out, order), (pair(value, status), Order::Position(value.to_bits())));
             let input = if target == 0x08 { next.ao.state.sp } else { next.ao.state.rcas_in };
+            assert_eq!((input.some, input.value, input.silence, input.ifs), (true, value, silence + 1, ifs));
+        }
+    }
+
+    let mut d = fresh;
+    d.di.state.operator = discrete(1, 0x86);
+    d.di.settings.target = 0x10;
+    assert_eq!(discrete_tick(d, (0, 0x00)).0.di.state.out, discrete(1, 0x86));
+    for value in [0, 1] {
+        let mut d = fresh;
+        d.di.settings.fsafe_type = 1;
+        d.di.state.last = KeptD { some: true, value };
+        assert_eq!(discrete_tick(d, (1 - value, 0x00)).0.di.state.out, discrete(value, 0x44));
+        let next = discrete_tick(d, (1 - value, 0x87)).0.di.state;
+        assert_eq!((next.out, next.last), (discrete(1 - value, 0x87), KeptD { some: true, value: 1 - value }));
+    }
+
+    let mut d = fresh;
+    d.dout.state.operator = discrete(1, 0x88);
+    d.dout.settings.target = 0x10;
+    let (next, order) = discrete_tick(d, (0, 0x80));
+    assert_eq!((next.dout.state.out, order), (discrete(1, 0x88), Order::Position(1)));
+    for (target, value) in [(0x08, 1), (0x02, 1), (0x08, 0), (0x02, 0)] {
+        for (silence, ifs, status) in [(3, false, 0x80), (4, false, 0x44), (3, true, 0x44)] {
+            let mut d = fresh;
+            d.dout.settings.target = target;
+            (d.dout.settings.fsafe_type, d.dout.settings.fsafe_time) = (1, 3);
+            d.dout.state.out.value = 1 - value;
+            let input = if target == 0x08 { &mut d.dout.state.sp } else { &mut d.dout.state.rcas_in };
+            (input.some, input.value, input.silence, input.ifs) = (true, value, silence, ifs);
+            let (next, order) = discrete_tick(d, (0, 0x80));
+            assert_eq!((next.dout.state.out, order), (discrete(value, status), Order::Position(value)));
+            let input = if target == 0x08 { next.dout.state.sp } else { next.dout.state.rcas_in };
             assert_eq!((input.some, input.value, input.silence, input.ifs), (true, value, silence + 1, ifs));
         }
     }

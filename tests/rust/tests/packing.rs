@@ -1,13 +1,13 @@
 //! The packed form of the archive's devices: its words are the fields of the struct in order, it goes there and back, and
 //! whatever bytes are unpacked, a device comes out that every call takes, or the bytes are refused.
 
-use comparison::archive::{AoInput, Archive, Device, Kept, Pair, Scale, PACKED_BYTES};
+use comparison::archive::{AoInput, Archive, Device, Discrete, DoInput, Kept, Pair, Scale, PACKED_BYTES};
 use comparison::calls::{Call, Head};
 use comparison::compare::PARAMETERS;
 use comparison::histories::histories;
 use comparison::random::Random;
 
-const LAYOUT_VERSION: u32 = 2;
+const LAYOUT_VERSION: u32 = 3;
 const WRONG_LENGTH: u8 = 7;
 const NOT_A_DEVICE: u8 = 255;
 
@@ -25,6 +25,14 @@ fn kept(k: Kept) -> [u32; 2] {
 
 fn input(i: AoInput) -> [u32; 4] {
     [i.some.into(), i.value.to_bits(), i.silence, i.ifs.into()]
+}
+
+fn discrete(d: Discrete) -> [u32; 2] {
+    [d.value.into(), d.status.into()]
+}
+
+fn discrete_input(i: DoInput) -> [u32; 4] {
+    [i.some.into(), i.value.into(), i.silence, i.ifs.into()]
 }
 
 /// The packed form as it is described: the version, then each field in order, a total as two words.
@@ -58,6 +66,21 @@ fn described(d: &Device) -> Vec<u8> {
     words.extend(pair(t.operator));
     words.extend([input(t.sp), input(t.rcas_in)].concat());
     words.push(d.ao.st_rev.into());
+
+    let (s, t) = (&d.di.settings, &d.di.state);
+    words.extend([s.target, s.invert, s.fsafe_type, s.fsafe_val_d]);
+    words.extend(discrete(t.out));
+    words.extend([t.mode, t.last.some.into(), t.last.value.into()]);
+    words.extend(discrete(t.operator));
+    words.push(d.di.st_rev.into());
+
+    let (s, t) = (&d.dout.settings, &d.dout.state);
+    words.extend([s.target, s.invert, s.fsafe_type, s.fsafe_val_d, s.fsafe_time]);
+    words.extend(discrete(t.out));
+    words.push(t.mode);
+    words.extend(discrete(t.operator));
+    words.extend([discrete_input(t.sp), discrete_input(t.rcas_in)].concat());
+    words.push(d.dout.st_rev.into());
     words.into_iter().flat_map(u32::to_be_bytes).collect()
 }
 
@@ -126,25 +149,27 @@ fn unpack_any(bytes: &[u8]) -> bool {
         other => panic!("refused as {other}"),
     }
     for _ in 0..3 {
-        head.tick(false, 50.0f32.to_bits(), 0x80, 1.0f32.to_bits(), 0x80);
+        head.tick(false, (50.0f32.to_bits(), 0x80), (1.0f32.to_bits(), 0x80), (1, 0x80));
         head.telegram(0, &[0x42, 0x48, 0, 0, 0x80]).expect("five bytes");
+        head.telegram(2, &[1, 0x80]).expect("two bytes");
     }
     for (block, parameters) in PARAMETERS {
         for &parameter in parameters {
             head.read(block, parameter).expect("a parameter");
         }
     }
-    Call::Image(15).on(&mut head);
+    Call::Image(19).on(&mut head);
     head.total();
     head.write(0, 18, 2457, 0).expect("never locked");
     head.warm_start();
     true
 }
 
-/// The kind of each word: V version, W any word, F float, S status, B flag, R ST_REV.
+/// The kind of each word: V version, W any word, F float, S status or discrete value, B flag, R ST_REV.
 fn kinds() -> String {
     let table = "FF".repeat(21);
-    ["VW", "WFFFFWFWFFFFFFWSWBFBFWSBBBBR", "W", &table, "WWWWFWWWSWBFSR", "WFFFFWWFWWSWWSBFWBBFWBR"].concat()
+    let analog = ["VW", "WFFFFWFWFFFFFFWSWBFBFWSBBBBR", "W", &table, "WWWWFWWWSWBFSR", "WFFFFWWFWWSWWSBFWBBFWBR"];
+    [&analog.concat(), "WWWWSSWBSSSR", "WWWWWSSWSSBSWBBSWBR"].concat()
 }
 
 /// What is refused of a word, by its kind alone.

@@ -1,9 +1,11 @@
 //! Vectors worked by hand from the paper: its points B to I, and a case for each reading that tells two readings apart.
 //!
-//! They are written in the call script with a few shorter forms: `50f`, `inf` and `nan` are float bits; `ain X S` and
-//! `tot X S` are ticks with that pair (the other being 0, 0x80), `off` is a tick with the fault flag, `sp X S` and
-//! `rcas X S` are telegrams, `table X Y X Y ..` loads these floats. After `=>` stands the answer; the words of a read stand there alone, a second word 0 may
-//! be left out. Without `=>` the call must not be refused. `7 * call` makes a call seven times.
+//! They are written in the call script with a few shorter forms: `50f`, `inf` and `nan` are float bits; `ain X S`,
+//! `tot X S` and `di X S` are ticks with that pair (the others being 0, 0x80), `off` is a tick with the fault flag,
+//! `sp X S`, `rcas X S`, `sp_d X S` and `rcas_d X S` are telegrams, `table X Y X Y ..` loads these floats. After `=>`
+//! stands the answer: for `ain`, `tot` and `off` AO's order alone, for `di` DO's, for `tick` both; the words of a read
+//! stand there alone, and a second word 0 may be left out. Without `=>` the call must not be refused. `7 * call` makes a
+//! call seven times.
 
 use comparison::archive::Archive;
 use comparison::calls::{parse, replay, Answer, Head, Line};
@@ -37,11 +39,14 @@ fn line(call: &str) -> String {
         format!("telegram {input} {} {}", bytes.join(" "), words[2])
     };
     match &*words[0] {
-        "ain" => format!("tick 0 {} {} 0 0x80", words[1], words[2]),
-        "tot" => format!("tick 0 0 0x80 {} {}", words[1], words[2]),
-        "off" => "tick 1 0 0x80 0 0x80".into(),
+        "ain" => format!("tick 0 {} {} 0 0x80 0 0x80", words[1], words[2]),
+        "tot" => format!("tick 0 0 0x80 {} {} 0 0x80", words[1], words[2]),
+        "di" => format!("tick 0 0 0x80 0 0x80 {} {}", words[1], words[2]),
+        "off" => "tick 1 0 0x80 0 0x80 0 0x80".into(),
         "sp" => telegram(0),
         "rcas" => telegram(1),
+        "sp_d" => format!("telegram 2 {} {}", words[1], words[2]),
+        "rcas_d" => format!("telegram 3 {} {}", words[1], words[2]),
         "table" => {
             let bytes = words[1..].iter().flat_map(|word| number(word).to_be_bytes());
             bytes.fold("load".into(), |line, byte| format!("{line} {byte}"))
@@ -57,6 +62,18 @@ fn expected(text: &str) -> String {
         return format!("words {:#010X} {second:#010X}", number(&words[0]));
     }
     words.join(" ")
+}
+
+/// The part of an answer that a call has after `=>`.
+fn shown(call: &str, answer: Answer) -> String {
+    let text = answer.to_string();
+    let words: Vec<&str> = text.split(' ').collect();
+    let (ao, dout) = words.split_at(if words[0] == "position" { 2 } else { 1 });
+    match call.split_whitespace().next() {
+        Some("ain" | "tot" | "off") => ao.join(" "),
+        Some("di") => dout.join(" "),
+        _ => text,
+    }
 }
 
 /// Plays calls on a fresh model, and on a fresh device of the archive's.
@@ -78,11 +95,11 @@ fn play_on(head: &mut dyn Head, script: &str) {
             Some((times, call)) => (number(times.trim()), call),
             None => (1, call),
         };
-        let Line::Call(call) = parse(line(call).as_bytes()) else { panic!("not a call: {text}") };
+        let Line::Call(parsed) = parse(line(call).as_bytes()) else { panic!("not a call: {text}") };
         for _ in 0..times {
-            let answer = call.on(head);
+            let answer = parsed.on(head);
             match wanted {
-                Some(wanted) => assert_eq!(answer.to_string(), expected(wanted), "{text} in:\n{script}"),
+                Some(wanted) => assert_eq!(shown(call, answer), expected(wanted), "{text} in:\n{script}"),
                 None => assert!(!matches!(answer, Answer::Refused(_)), "{text}: {answer} in:\n{script}"),
             }
         }
@@ -93,7 +110,7 @@ fn play_on(head: &mut dyn Head, script: &str) {
 
 #[test]
 fn point_b() {
-    play("write 1 11 4f 20f; ain 12f 0x80; image 15 => bytes 42 48 00 00 80 00 00 00 00 80 00 00 00 00 4C");
+    play("write 1 11 4f 20f; ain 12f 0x80; image 19 => bytes 42 48 00 00 80 00 00 00 00 80 00 00 00 00 4C 00 80 00 48");
 }
 
 #[test]
@@ -207,6 +224,8 @@ fn lacking_parameters() {
         (1, &[1, 5, 6, 7, 10, 11, 12, 13, 16, 17, 18, 19, 21, 23, 25, 27]),
         (2, &[1, 5, 6, 10, 13, 14, 15, 16]),
         (3, &[1, 5, 6, 11, 23, 24, 25, 36, 37, 38]),
+        (4, &[1, 5, 6, 10, 15, 20, 21]),
+        (5, &[1, 5, 6, 10, 15, 20, 21, 22]),
     ] {
         for parameter in 0..=255 {
             let head = &mut Model::factory();
@@ -215,7 +234,7 @@ fn lacking_parameters() {
             assert_eq!(head.write(block, parameter, 0xFFFF_FFFF, 0xFFFF_FFFF) == Err(2), !known, "{block} {parameter}");
         }
     }
-    for block in 4..=255 {
+    for block in 6..=255 {
         assert_eq!(Model::factory().read(block, 1), Err(1));
         assert_eq!(Model::factory().write(block, 1, 0, 0), Err(1));
     }
@@ -232,13 +251,19 @@ fn defaults() {
          read 2 1 => 0; read 2 5 => 8; read 2 6 => 0x80; read 2 10 => 0f 0x1F; read 2 13 => 0; read 2 14 => 0
          read 2 15 => 0; read 2 16 => 0f
          read 3 1 => 0; read 3 5 => 8; read 3 6 => 0x80; read 3 11 => 0f 100f; read 3 23 => 0; read 3 24 => 1
-         read 3 25 => 0f; read 3 36 => 0; read 3 37 => 0f 0x1F; read 3 38 => 0f 100f; total => total 0",
+         read 3 25 => 0f; read 3 36 => 0; read 3 37 => 0f 0x1F; read 3 38 => 0f 100f; total => total 0
+         read 4 1 => 0; read 4 5 => 8; read 4 6 => 0x80; read 4 10 => 0 0x1F; read 4 15 => 0; read 4 20 => 0
+         read 4 21 => 0
+         read 5 1 => 0; read 5 5 => 8; read 5 6 => 0x80; read 5 10 => 0 0x1F; read 5 15 => 0; read 5 20 => 0
+         read 5 21 => 0; read 5 22 => 0",
     );
-    // The operator's pairs: 0, 0x4C. Entered on a fresh device, AIN and AO have taken theirs from OUT.
+    // The operator's pairs: 0, 0x4C. Entered on a fresh device, all but TOT have taken theirs from OUT.
     play(
-        "write 1 5 0x10 0; write 2 5 0x10 0; write 3 5 0x10 0; tick 0 50f 0x80 50f 0x80 => position 0f
-         image 15 => bytes 00 00 00 00 1F 00 00 00 00 4C 00 00 00 00 1F; warm; tick 0 50f 0x80 50f 0x80 => position 0f
-         image 15 => bytes 00 00 00 00 4C 00 00 00 00 4C 00 00 00 00 4C",
+        "write 1 5 0x10 0; write 2 5 0x10 0; write 3 5 0x10 0; write 4 5 0x10 0; write 5 5 0x10 0
+         tick 0 50f 0x80 50f 0x80 1 0x80 => position 0f position 0
+         image 19 => bytes 00 00 00 00 1F 00 00 00 00 4C 00 00 00 00 1F 00 1F 00 1F; warm
+         tick 0 50f 0x80 50f 0x80 1 0x80 => position 0f position 0
+         image 19 => bytes 00 00 00 00 4C 00 00 00 00 4C 00 00 00 00 4C 00 4C 00 4C",
     );
 }
 
@@ -328,15 +353,15 @@ fn modes() {
     play("write 3 5 2 0; ain 0f 0x80 => position 0f; read 3 6 => 2; read 3 37 => 0f 0x4C");
     // O/S keeps the last usable value, the rate and the telegrams, and n goes on.
     play(
-        "write 2 15 2 0; write 3 23 2 0; sp 50f 0x80; tick 0 50f 0x80 1f 0x80 => position 50f; off => rest
-         image 15 => bytes 42 48 00 00 1F 3D CC CC CD 1F 42 48 00 00 1F; read 1 6 => 0x80; read 2 6 => 0x80
+        "write 2 15 2 0; write 3 23 2 0; sp 50f 0x80; tick 0 50f 0x80 1f 0x80 1 0x80 => position 50f position 0
+         off => rest; image 19 => bytes 42 48 00 00 1F 3D CC CC CD 1F 42 48 00 00 1F 01 1F 00 1F; read 1 6 => 0x80; read 2 6 => 0x80
          read 3 6 => 0x80; read 1 5 => 8
-         tick 0 0f 0 0f 0 => position 50f; read 1 10 => 50f 0x44; read 2 10 => 0.2f 0x44; read 3 37 => 50f 0x80
+         tick 0 0f 0 0f 0 0 0 => position 50f position 0; read 1 10 => 50f 0x44; read 2 10 => 0.2f 0x44; read 3 37 => 50f 0x80
          ain 0f 0; read 3 37 => 50f 0x44",
     );
     // At once after a warm start.
     play(
-        "write 1 23 40f 0; tick 0 50f 0x80 1f 0x80; read 1 7 => 2; warm; read 1 10 => 50f 0x1F; read 1 6 => 0x80
+        "write 1 23 40f 0; tick 0 50f 0x80 1f 0x80 0 0x80; read 1 7 => 2; warm; read 1 10 => 50f 0x1F; read 1 6 => 0x80
          read 1 7 => 0; read 2 10 => 0.1f 0x1F; read 3 6 => 0x80; total => total 100; warm; read 1 10 => 50f 0x1F
          ain 0f 0; read 1 10 => 0f 0x4C",
     );
@@ -493,7 +518,7 @@ fn the_pair_taken_stays() {
     );
     play(
         "sp 50f 0x80; ain 0f 0x80; write 3 5 0x10 0; off => rest; sp 25f 0x80; rcas 75f 0xA0; write 3 38 0f 200f
-         write 3 36 1 0; write 3 24 2 0; write 3 25 9f 0; write 1 5 0x10 0; image 15; read 3 37 => 50f 0x1F
+         write 3 36 1 0; write 3 24 2 0; write 3 25 9f 0; write 1 5 0x10 0; image 19; read 3 37 => 50f 0x1F
          ain 0f 0x80 => position 50f; read 3 37 => 50f 0x80; off; ain 0f 0x80 => position 50f; read 3 37 => 50f 0x80",
     );
     // Written before the tick, the operator's own pair is given.
@@ -773,7 +798,7 @@ fn linearised_before_scaling() {
     play(&[WEIR, "write 1 12 0f 50f; ain 4f 0x80; read 1 10 => 35f 0x80"].concat());
     play(&["write 1 11 70f 170f; write 1 12 5f 6f; ", WEIR, "ain 4f 0x80; read 1 10 => 5f 0x80"].concat());
     // TOT's rate is not, nor an operator's value.
-    play_weir("tick 0 4f 0x80 4f 0x80; total => total 400; write 1 5 0x10 0; write 1 10 4f 0x80; ain 4f 0x80; read 1 10 => 4f 0x80");
+    play_weir("tick 0 4f 0x80 4f 0x80 0 0x80; total => total 400; write 1 5 0x10 0; write 1 10 4f 0x80; ain 4f 0x80; read 1 10 => 4f 0x80");
     // Alarms go by the linearised OUT.
     play_weir("write 1 23 70f 0; ain 3.5f 0x80; read 1 7 => 0; ain 4f 0x80; read 1 7 => 2; read 1 10 => 70f 0x8A");
 }
@@ -952,24 +977,336 @@ fn scaling_of_ao() {
     // never in Man
 }
 
+// DI
+
+#[test]
+fn contact() {
+    // Usable: the value with the input's status; INVERT acts with the next tick.
+    play(
+        "di 1 0x80; read 4 10 => 1 0x80; read 4 6 => 8; di 0 0x43; read 4 10 => 0 0x43; di 1 0xBF; read 4 10 => 1 0xBF
+         di 1 0x40; read 4 10 => 1 0x40; write 4 15 1 0; read 4 10 => 1 0x40; di 1 0x80; read 4 10 => 0 0x80
+         di 0 0x81; read 4 10 => 1 0x81; write 4 15 0 0; di 0 0x81; read 4 10 => 0 0x81",
+    );
+    // By its own pair.
+    play("write 4 20 2 0; tick 0 50f 0x41 1f 0x42 1 0x83; read 1 10 => 50f 0x41; read 2 10 => 0.1f 0x42; read 4 10 => 1 0x83");
+    play("write 4 20 2 0; tick 0 nan 0 nan 0 1 0x80; read 4 10 => 1 0x80; tick 0 50f 0x80 1f 0x80 7 0x80; read 1 10 => 50f 0x80; read 4 10 => 1 0x04");
+}
+
+/// Type 2 shows the Bad status: a quality 0 as it is, else 0x04, whatever the value.
+#[test]
+fn input_status_of_di() {
+    play(
+        "write 4 20 2 0; di 1 0x80; di 7 0x80; read 4 10 => 1 0x04; di 7 0x0D; read 4 10 => 1 0x0D; di 0 0xC3
+         read 4 10 => 0 0x04; di 1 0x1C; read 4 10 => 1 0x1C; di 2 0xC0; read 4 10 => 1 0x04; di 255 0x40; read 4 10 => 1 0x04",
+    );
+    for status in 0..=255 {
+        let bad = if status < 0x40 { status } else { 0x04 };
+        for value in [2, 3, 128, 254, 255] {
+            play(&format!("write 4 20 2 0; di 1 0x80; di {value} {status}; read 4 10 => 1 {bad}"));
+        }
+        let (one, usable) = (if (0x40..0xC0).contains(&status) { status } else { bad }, (0x40..0xC0).contains(&status));
+        let after = if usable { "1 0x44" } else { "0 0x4C" };
+        play(&format!(
+            "write 4 20 2 0; di 1 {status}; read 4 10 => 1 {one}; write 4 20 1 0; di 0 0; read 4 10 => {after}"
+        ));
+    }
+}
+
+#[test]
+fn fail_safe_of_di() {
+    // Type 0, the default: FSAFE_VAL_D, which INVERT leaves.
+    play(
+        "di 1 0x80; di 1 0; read 4 10 => 0 0x48; write 4 21 1 0; di 0 0; read 4 10 => 1 0x48; write 4 15 1 0; di 0 0
+         read 4 10 => 1 0x48; di 9 0x80; read 4 10 => 1 0x48; di 1 0xC0; read 4 10 => 1 0x48",
+    );
+    // Type 1: the last usable OUT_D as it was given, of quality 1 too; without one 0, whatever INVERT says.
+    play(
+        "write 4 20 1 0; write 4 15 1 0; di 1 0; read 4 10 => 0 0x4C; write 4 15 0 0; di 1 0; read 4 10 => 0 0x4C
+         di 1 0x40; read 4 10 => 1 0x40; di 0 0; read 4 10 => 1 0x44; write 4 15 1 0; di 0 0; read 4 10 => 1 0x44
+         di 1 0x80; read 4 10 => 0 0x80; write 4 15 0 0; di 1 0; read 4 10 => 0 0x44; di 2 0x80; read 4 10 => 0 0x44",
+    );
+    // Not the old OUT_D: an operator's value is none, nor is one of type 2.
+    play("write 4 5 0x10 0; write 4 10 1 0x80; di 0 0x80; read 4 10 => 1 0x80; write 4 5 8 0; write 4 20 1 0; di 1 0; read 4 10 => 0 0x4C");
+    play("write 4 20 2 0; di 1 0; read 4 10 => 1 0; write 4 20 1 0; di 1 0; read 4 10 => 0 0x4C");
+    // Kept through Man, O/S and a value over 1; a warm start forgets it.
+    play(
+        "write 4 20 1 0; di 1 0x80; write 4 5 0x10 0; write 4 10 0 0x80; di 0 0x80; off; write 4 5 8 0; di 7 0x80
+         read 4 10 => 1 0x44; warm; read 4 10 => 1 0x1F; di 1 0; read 4 10 => 0 0x4C",
+    );
+    // Type 2: the value inverted, or where it is none the old OUT_D, which is not.
+    play(
+        "write 4 20 2 0; write 4 15 1 0; di 5 0x0D; read 4 10 => 0 0x0D; di 1 0x0D; read 4 10 => 0 0x0D; di 0 0x0D
+         read 4 10 => 1 0x0D; di 5 0x0D; read 4 10 => 1 0x0D; di 2 0x80; read 4 10 => 1 0x04; di 3 0x80; read 4 10 => 1 0x04",
+    );
+}
+
+#[test]
+fn modes_of_di() {
+    play(
+        "di 1 0x80; off; read 4 10 => 1 0x1F; read 4 6 => 0x80; read 4 5 => 8; write 4 5 0x80 0; di 0 0x80
+         read 4 10 => 1 0x1F; write 4 5 8 0; di 0 0x80; read 4 10 => 0 0x80; write 4 5 2 0 => refused 5",
+    );
+    // INVERT has no part in Man.
+    play("write 4 15 1 0; write 4 5 0x10 0; write 4 10 0 0xC3; di 0 0x80; read 4 10 => 0 0xC3; write 4 10 1 0; read 4 10 => 0 0xC3; di 0 0x80; read 4 10 => 1 0");
+    play("di 1 0x80; warm; read 4 10 => 1 0x1F; read 4 6 => 0x80; write 4 15 1 0; warm; read 4 15 => 1; read 4 1 => 1; read 4 10 => 1 0x1F");
+}
+
+// DO
+
+#[test]
+fn fresh_do() {
+    play("di 0 0x80 => position 0; read 5 10 => 0 0x48; read 5 6 => 8");
+    play("write 5 15 1 0; di 0 0x80 => position 1; read 5 10 => 1 0x48");
+    play("write 5 5 2 0; di 0 0x80 => position 0; read 5 6 => 2; read 5 10 => 0 0x48");
+}
+
+#[test]
+fn usable_telegrams_of_do() {
+    play("sp_d 1 0x80; di 0 0x80 => position 1; read 5 10 => 1 0x80");
+    play("sp_d 1 0xC7; di 0 0x80 => position 1; read 5 10 => 1 0x80");
+    play("write 5 5 2 0; rcas_d 1 0x80; di 0 0x80 => position 1; read 5 10 => 1 0x80");
+    for status in ["0x84", "0xFC", "0x81", "0xA8", "0x9F"] {
+        play(&format!("sp_d 1 {status}; di 0 0x80 => position 1; read 5 10 => 1 0x80"));
+    }
+    // Another quality, or another value, counts for nothing.
+    for telegram in ["1 0x4C", "1 0", "1 0x7F", "5 0x80", "2 0x80", "255 0xC0", "3 0x40"] {
+        play(&format!("sp_d {telegram}; di 0 0x80 => position 0; read 5 10 => 0 0x48"));
+        play(&format!("write 5 22 9 0; sp_d 1 0x80; sp_d {telegram}; di 0 0x80 => position 1; read 5 10 => 1 0x80"));
+    }
+    // IFS, whatever the value; a good byte with another value ends nothing.
+    for ifs in ["1 0xA0", "0 0xA3", "5 0xA0", "5 0xE3", "2 0xE0"] {
+        play(&format!(
+            "write 5 22 9 0; write 5 20 1 0; sp_d 1 0x80; sp_d {ifs}; di 0 0x80 => position 1; read 5 10 => 1 0x44
+             sp_d 5 0x80; sp_d 2 0xC0; sp_d 0 0x4C; di 0 0x80 => position 1; read 5 10 => 1 0x44
+             sp_d 0 0x80; di 0 0x80 => position 0; read 5 10 => 0 0x80"
+        ));
+        play(&format!("sp_d {ifs}; di 0 0x80 => position 0; read 5 10 => 0 0x48"));
+    }
+    // No queue.
+    play("sp_d 1 0x80; sp_d 0 0x80; sp_d 1 0x40; di 0 0x80 => position 0; read 5 10 => 0 0x80");
+    // Each input for itself.
+    play(
+        "write 5 22 9 0; write 5 20 1 0; sp_d 1 0x80; rcas_d 0 0xA0; di 0 0x80 => position 1; read 5 10 => 1 0x80
+         write 5 5 2 0; di 0 0x80 => position 1; read 5 10 => 1 0x4C; rcas_d 0 0x80; sp_d 1 0xA0; di 0 0x80 => position 0
+         read 5 10 => 0 0x80; write 5 5 8 0; di 0 0x80 => position 1; read 5 10 => 1 0x44",
+    );
+    // AO's inputs are others.
+    play("sp_d 1 0x80; rcas_d 1 0x80; ain 0f 0x80 => position 0f; read 3 37 => 0f 0x4C");
+    play("sp 50f 0x80; rcas 50f 0x80; tick 0 0f 0x80 0f 0x80 0 0x80 => position 50f position 0; read 5 10 => 0 0x48");
+}
+
+#[test]
+fn silence_of_do() {
+    // As point H.
+    play(
+        "write 5 20 1 0; write 5 22 2 0; sp_d 1 0x80; 3 * di 0 0x80 => position 1; read 5 10 => 1 0x80
+         di 0 0x80 => position 1; read 5 10 => 1 0x44",
+    );
+    play("write 5 20 1 0; sp_d 1 0x80; di 0 0x80; read 5 10 => 1 0x80; di 0 0x80; read 5 10 => 1 0x44");
+    // In any mode; what counts for nothing does not restart n, nor does AO's telegram or one on the other input.
+    play(
+        "write 5 22 2 0; sp_d 1 0x80; off; write 5 5 0x10 0; di 0 0x80; sp_d 0 0x40; write 5 5 8 0; di 0 0x80 => position 1
+         read 5 10 => 1 0x80; sp_d 2 0x80; sp 50f 0x80; rcas_d 1 0x80; di 0 0x80 => position 0; read 5 10 => 0 0x48",
+    );
+    play(
+        "write 5 20 1 0; write 5 22 2 0; rcas_d 1 0x80; 2 * di 0 0x80; sp_d 0 0x80; write 5 5 2 0; di 0 0x80 => position 1
+         read 5 10 => 1 0x80; di 0 0x80 => position 1; read 5 10 => 1 0x44; write 5 5 8 0; di 0 0x80 => position 0
+         read 5 10 => 0 0x80",
+    );
+    play("write 3 23 2 0; sp 50f 0x80; 2 * ain 0f 0x80; sp_d 1 0x80; ain 0f 0x80; read 3 37 => 50f 0x80; sp_d 1 0x80; ain 0f 0x80; read 3 37 => 50f 0x44");
+    // By its own FSAFE_TIME.
+    play("write 3 23 9 0; write 5 20 1 0; sp_d 1 0x80; 2 * di 0 0x80; read 5 10 => 1 0x44");
+    // n past 16 bits.
+    play("write 5 20 1 0; write 5 22 65535 0; sp_d 1 0x80; 65536 * di 0 0x80; read 5 10 => 1 0x80; di 0 0x80; read 5 10 => 1 0x44; 65536 * di 0 0x80; read 5 10 => 1 0x44");
+    // Not latched.
+    play("write 5 20 1 0; sp_d 1 0x80; 3 * di 0 0x80; read 5 10 => 1 0x44; write 5 22 3 0; di 0 0x80; read 5 10 => 1 0x80; di 0 0x80; read 5 10 => 1 0x44");
+}
+
+#[test]
+fn fail_safe_of_do() {
+    // Every w is inverted, by the INVERT of now: a telegram followed, FSAFE_VAL_D, the last usable one.
+    play(
+        "write 5 22 9 0; write 5 15 1 0; sp_d 1 0x80; di 0 0x80 => position 0; read 5 10 => 0 0x80; write 5 15 0 0
+         read 5 10 => 0 0x80; di 0 0x80 => position 1; read 5 10 => 1 0x80; sp_d 0 0x80; write 5 15 1 0
+         di 0 0x80 => position 1; read 5 10 => 1 0x80",
+    );
+    play(
+        "write 5 21 1 0; di 0 0x80 => position 1; read 5 10 => 1 0x48; write 5 15 1 0; di 0 0x80 => position 0
+         read 5 10 => 0 0x48; write 5 21 0 0; di 0 0x80 => position 1; read 5 10 => 1 0x48",
+    );
+    play(
+        "write 5 20 1 0; sp_d 1 0x80; di 0 0x80 => position 1; write 5 15 1 0; di 0 0x80 => position 0; read 5 10 => 0 0x44
+         write 5 15 0 0; di 0 0x80 => position 1; read 5 10 => 1 0x44",
+    );
+    // Type 1 without one: the old OUT_D, not inverted, be it an operator's.
+    play("write 5 20 1 0; di 0 0x80 => position 0; read 5 10 => 0 0x4C; write 5 15 1 0; di 0 0x80 => position 0; read 5 10 => 0 0x4C");
+    play(
+        "write 5 5 0x10 0; write 5 10 1 0x80; di 0 0x80 => position 1; write 5 5 8 0; write 5 20 1 0; write 5 15 1 0
+         di 0 0x80 => position 1; read 5 10 => 1 0x4C; di 0 0x80 => position 1; warm; di 0 0x80 => position 1; read 5 10 => 1 0x4C",
+    );
+    // Type 2: Safe, whether there is one or not; INVERT leaves the old OUT_D.
+    play(
+        "sp_d 1 0x80; di 0 0x80 => position 1; write 5 20 2 0; di 0 0x80 => safe; read 5 10 => 1 0; write 5 15 1 0
+         di 0 0x80 => safe; read 5 10 => 1 0; tick 1 0 0x80 0 0x80 0 0x80 => rest rest; read 5 10 => 1 0x1F
+         sp_d 1 0x80; di 0 0x80 => position 0; read 5 10 => 0 0x80; warm; di 0 0x80 => safe; read 5 10 => 0 0",
+    );
+    // Both orders of a tick, each by its own block.
+    play("write 3 24 2 0; tick 0 0 0x80 0 0x80 0 0x80 => safe position 0; write 5 20 2 0; tick 0 0 0x80 0 0x80 0 0x80 => safe safe");
+    play("write 3 5 0x80 0; write 5 20 2 0; tick 0 0 0x80 0 0x80 0 0x80 => rest safe; write 5 5 0x80 0; tick 0 0 0x80 0 0x80 0 0x80 => rest rest");
+}
+
+#[test]
+fn modes_of_do() {
+    // INVERT has no part in Man.
+    play("write 5 15 1 0; write 5 5 0x10 0; write 5 10 0 0xC3; di 0 0x80 => position 0; read 5 10 => 0 0xC3; read 5 6 => 0x10");
+    play(
+        "write 5 22 9 0; sp_d 1 0x80; di 0 0x80; write 5 5 0x80 0; sp_d 0 0x80; tick 0 0 0x80 0 0x80 0 0x80 => position 0f rest
+         read 5 10 => 1 0x1F; read 5 6 => 0x80; write 5 5 8 0; di 0 0x80 => position 0; read 5 10 => 0 0x80",
+    );
+    // A warm start keeps OUT_D and the settings, and forgets the telegrams.
+    play(
+        "write 5 22 9 0; write 5 20 1 0; sp_d 1 0x80; rcas_d 0 0x80; di 0 0x80 => position 1; warm; read 5 10 => 1 0x1F
+         read 5 6 => 0x80; read 5 22 => 9; read 5 1 => 2; di 0 0x80 => position 1; read 5 10 => 1 0x4C; write 5 5 2 0
+         di 0 0x80 => position 1; read 5 10 => 1 0x4C",
+    );
+    // A telegram is no write.
+    play("write 0 18 0 0; sp_d 1 0x80 => ok; rcas_d 9 0 => ok; di 0 0x80 => position 1; read 5 1 => 0");
+}
+
+// DI and DO
+
+/// The pair last given stands, as in AIN and AO.
+#[test]
+fn di_and_do_entering_man() {
+    play("di 1 0x80; write 4 5 0x10 0; read 4 10 => 1 0x80; read 4 6 => 8; di 0 0x40; read 4 10 => 1 0x80; read 4 6 => 0x10");
+    play("write 4 15 1 0; di 0 0x83; write 4 5 0x10 0; di 0 0x80; read 4 10 => 1 0x83; write 4 15 0 0; di 0 0x80; read 4 10 => 1 0x83");
+    play("write 4 21 1 0; di 0 0; write 4 5 0x10 0; di 0 0x80; read 4 10 => 1 0x48; di 7 0x80; read 4 10 => 1 0x48");
+    play("sp_d 1 0xC7; di 0 0x80; write 5 5 0x10 0; di 0 0x80 => position 1; read 5 10 => 1 0x80; di 0 0x80 => position 1");
+    play("write 5 15 1 0; sp_d 0 0x80; di 0 0x80; write 5 5 0x10 0; di 0 0x80 => position 1; write 5 15 0 0; di 0 0x80 => position 1; read 5 10 => 1 0x80");
+    play("rcas_d 1 0x80; write 5 5 2 0; di 0 0x80; write 5 5 0x10 0; di 0 0x80 => position 1; read 5 10 => 1 0x80");
+    // Under 0x1F: after a fault, by the target, fresh, after a warm start.
+    play(
+        "sp_d 1 0x80; di 1 0x80; off; write 4 5 0x10 0; write 5 5 0x10 0; di 0 0x80 => position 1; read 4 10 => 1 0x1F
+         read 5 10 => 1 0x1F",
+    );
+    play(
+        "sp_d 1 0x80; di 1 0x80; write 4 5 0x80 0; write 5 5 0x80 0; di 0 0x80 => rest; write 4 5 0x10 0; write 5 5 0x10 0
+         di 0 0x80 => position 1; read 4 10 => 1 0x1F; read 5 10 => 1 0x1F",
+    );
+    play("write 4 5 0x10 0; write 5 5 0x10 0; di 1 0x80 => position 0; read 4 10 => 0 0x1F; read 5 10 => 0 0x1F");
+    play("sp_d 1 0x80; di 1 0x80; warm; write 4 5 0x10 0; write 5 5 0x10 0; di 0 0x80 => position 1; read 4 10 => 1 0x1F; read 5 10 => 1 0x1F");
+    // The fresh pair after a warm start where the target is Man.
+    play("sp_d 1 0x80; di 1 0x80; write 4 5 0x10 0; write 5 5 0x10 0; warm; di 1 0x80 => position 0; read 4 10 => 0 0x4C; read 5 10 => 0 0x4C");
+    // Man over Man leaves the pair and counts.
+    play(
+        "di 1 0x80; write 4 5 0x10 0; write 4 10 0 0x81; write 4 5 0x10 0; di 1 0x80; read 4 10 => 0 0x81; off
+         write 4 5 0x10 0; di 1 0x80; read 4 10 => 0 0x81; read 4 1 => 3",
+    );
+    play(
+        "sp_d 1 0x80; di 0 0x80; write 5 5 0x10 0; write 5 10 0 0x81; write 5 5 0x10 0; di 0 0x80 => position 0
+         read 5 10 => 0 0x81; off; write 5 5 0x10 0; di 0 0x80 => position 0; read 5 10 => 0 0x81; read 5 1 => 3",
+    );
+    // Left and entered again without a tick: what was written was never given.
+    play("di 1 0x80; write 4 5 0x10 0; write 4 10 0 0x81; write 4 5 8 0; write 4 5 0x10 0; di 0 0x80; read 4 10 => 1 0x80");
+    play("sp_d 1 0x80; di 0 0x80; write 5 5 0x10 0; write 5 10 0 0x81; write 5 5 2 0; write 5 5 0x10 0; di 0 0x80 => position 1; read 5 10 => 1 0x80");
+    // Refused, it takes none.
+    play(
+        "sp_d 1 0x80; di 1 0x80; write 4 5 0x10 0; write 4 10 0 0x81; write 5 5 0x10 0; write 5 10 0 0x82; write 0 18 0 0
+         write 4 5 8 0 => refused 4; write 5 5 0x10 0 => refused 4; write 0 18 2457 0; write 4 5 0x10 1 => refused 5
+         write 5 5 0x20 0 => refused 5; di 1 0x80 => position 0; read 4 10 => 0 0x81; read 5 10 => 0 0x82",
+    );
+    // From Safe the drive goes to the value that OUT_D kept.
+    play(
+        "sp_d 1 0x80; di 0 0x80; write 5 20 2 0; di 0 0x80 => safe; write 5 5 0x10 0; di 0 0x80 => position 1
+         read 5 10 => 1 0; di 0 0x80 => position 1",
+    );
+    // Each block for itself.
+    play(
+        "write 5 22 9 0; sp_d 1 0x80; di 1 0x80; write 4 5 0x10 0; sp_d 0 0x80; di 0 0x80 => position 0; read 4 10 => 1 0x80
+         write 4 5 8 0; write 5 5 0x10 0; sp_d 1 0x80; di 0 0x81 => position 0; read 4 10 => 0 0x81; read 5 10 => 0 0x80",
+    );
+}
+
+#[test]
+fn words_of_di_and_do() {
+    for block in [4, 5] {
+        for parameter in [15, 21] {
+            play(&format!(
+                "write {block} {parameter} 1 0 => ok; read {block} {parameter} => 1; write {block} {parameter} 2 0 => refused 5
+                 write {block} {parameter} 0 1 => refused 5; write {block} {parameter} 256 0 => refused 5
+                 write {block} {parameter} 0 0 => ok; read {block} {parameter} => 0; read {block} 1 => 2"
+            ));
+        }
+        play(&format!(
+            "write {block} 20 2 0 => ok; read {block} 20 => 2; write {block} 20 1 0 => ok; write {block} 20 3 0 => refused 5
+             write {block} 20 1 1 => refused 5; write {block} 20 258 0 => refused 5; read {block} 20 => 1; read {block} 1 => 2"
+        ));
+        // OUT_D: 5 before 6, and it is not counted.
+        play(&format!(
+            "write {block} 10 2 0 => refused 5; write {block} 10 0 256 => refused 5; write {block} 10 1 0x80 => refused 6
+             write {block} 5 0x10 0; write {block} 10 2 0 => refused 5; write {block} 10 256 0 => refused 5
+             write {block} 10 1f 0x80 => refused 5; write {block} 10 0 256 => refused 5; write {block} 10 1 255 => ok
+             read {block} 10 => 0 0x1F; di 0 0x80; read {block} 10 => 1 255; read {block} 1 => 1
+             write {block} 5 8 0; read {block} 6 => 0x10; write {block} 10 0 0x80 => refused 6"
+        ));
+        // 1 to 4.
+        play(&format!(
+            "write {block} 1 0 0 => refused 3; write {block} 6 8 0 => refused 3; write {block} 7 0 0 => refused 2
+             write {block} 18 0 0 => refused 2; write {block} 19 0 0 => refused 2; read {block} 7 => refused 2
+             read {block} 18 => refused 2; read {block} 19 => refused 2; write 0 18 0 0; write {block} 1 0 0 => refused 3
+             write {block} 7 0 0 => refused 2; write {block} 15 1 0 => refused 4; write {block} 15 9 9 => refused 4
+             write {block} 10 2 0 => refused 4; write {block} 5 0x10 0 => refused 4; read {block} 1 => 0"
+        ));
+        play(&format!("65535 * write {block} 15 1 0; read {block} 1 => 65535; write {block} 15 1 0; read {block} 1 => 0; read {} 1 => 0", 9 - block));
+    }
+    play(
+        "read 4 22 => refused 2; write 4 22 0 0 => refused 2; write 5 22 65535 0 => ok; read 5 22 => 65535
+         write 5 22 65536 0 => refused 5; write 5 22 0 1 => refused 5; read 5 1 => 1",
+    );
+    play(
+        "write 4 5 2 0 => refused 5; write 5 5 2 0 => ok; write 4 5 0x88 0 => refused 5; write 5 5 8 1 => refused 5
+         read 6 1 => refused 1; write 6 5 8 0 => refused 1; read 255 10 => refused 1; write 0 18 0 0; write 6 5 8 0 => refused 1",
+    );
+}
+
+#[test]
+fn lengths_of_telegrams() {
+    play(
+        "telegram 2 => refused 7; telegram 2 1 => refused 7; telegram 2 1 128 0 => refused 7; telegram 3 1 2 3 4 5 => refused 7
+         telegram 2 0 0 0 0 128 => refused 7; telegram 0 1 128 => refused 7; telegram 1 1 128 => refused 7
+         telegram 4 1 128 => refused 8; telegram 4 => refused 8; telegram 4 1 2 3 4 5 => refused 8
+         telegram 255 1 128 => refused 8; di 0 0x80 => position 0; read 5 10 => 0 0x48
+         telegram 2 1 128 => ok; telegram 3 0 0 => ok; di 0 0x80 => position 1",
+    );
+}
+
 // Bus image and refusals
 
 #[test]
 fn image_and_part() {
     play(
-        "image 14 => refused 7; image 0 => refused 7; write 1 5 0x10 0; write 1 10 7f 0x80; tick 0 0f 0x80 1f 0x80
-         write 1 10 8f 0x80; image 16 => bytes 40 E0 00 00 80 3D CC CC CD 80 00 00 00 00 4C A5
-         warm; image 15 => bytes 40 E0 00 00 1F 3D CC CC CD 1F 00 00 00 00 1F
-         part 1 15 => bytes 00 01 02 03 04; part 2 15 => bytes 05 06 07 08 09; part 3 15 => bytes 0A 0B 0C 0D 0E
-         part 3 64 => bytes 0A 0B 0C 0D 0E; part 1 14 => bytes; part 0 15 => bytes; part 4 64 => bytes; part 255 64 => bytes",
+        "image 18 => refused 7; image 15 => refused 7; image 0 => refused 7; write 1 5 0x10 0; write 1 10 7f 0x80
+         write 5 5 0x10 0; write 5 10 1 0x84; tick 0 0f 0x80 1f 0x80 1 0x81 => position 0f position 1
+         write 1 10 8f 0x80; write 5 10 0 0x85
+         image 20 => bytes 40 E0 00 00 80 3D CC CC CD 80 00 00 00 00 4C 01 81 01 84 A5
+         warm; image 19 => bytes 40 E0 00 00 1F 3D CC CC CD 1F 00 00 00 00 1F 01 1F 01 1F
+         part 1 19 => bytes 00 01 02 03 04; part 2 19 => bytes 05 06 07 08 09; part 3 19 => bytes 0A 0B 0C 0D 0E
+         part 4 19 => bytes 0F 10; part 5 19 => bytes 11 12; part 3 64 => bytes 0A 0B 0C 0D 0E; part 4 64 => bytes 0F 10
+         part 5 64 => bytes 11 12; part 0 19 => bytes; part 6 64 => bytes; part 255 64 => bytes",
     );
+    // The empty part counts from 19 for every block.
+    for block in 0..=6 {
+        for length in [0, 5, 14, 15, 17, 18] {
+            play(&format!("part {block} {length} => bytes"));
+        }
+    }
 }
 
 #[test]
 fn refusals() {
     play(
-        "read 4 1 => refused 1; read 2 7 => refused 2; write 1 1 0 0 => refused 3; write 1 5 0x02 0 => refused 5
-          write 1 10 0 0 => refused 6; telegram 0 1 2 3 4 => refused 7; telegram 2 1 2 3 4 5 => refused 8",
+        "read 6 1 => refused 1; read 2 7 => refused 2; write 1 1 0 0 => refused 3; write 1 5 0x02 0 => refused 5
+          write 1 10 0 0 => refused 6; telegram 0 1 2 3 4 => refused 7; telegram 4 1 2 3 4 5 => refused 8",
     );
     // The order of the grounds.
     play(
@@ -978,7 +1315,7 @@ fn refusals() {
          write 0 18 1 0 => refused 5; write 0 18 0 0 => ok; write 0 18 2457 0 => ok; write 1 5 8 0 => ok",
     );
     play("write 1 10 nan 0 => refused 5; write 1 10 0f 256 => refused 5; write 2 10 2e9f 0 => refused 5; write 3 37 inf 0 => refused 5");
-    play("telegram 2 1 2 3 4 => refused 8; telegram 0 1 2 3 4 5 6 => refused 7; telegram 1 => refused 7; telegram 255 => refused 8");
+    play("telegram 4 1 2 3 4 => refused 8; telegram 0 1 2 3 4 5 6 => refused 7; telegram 1 => refused 7; telegram 255 => refused 8");
     play(
         "load 1 2 3 => refused 9; table 1f 0f 0f 0f => refused 10; write 1 13 1 0 => refused 5; write 0 18 0 0
          table 1f 0f 0f 0f => refused 4; load => refused 4; write 1 13 1 0 => refused 4; write 1 13 9 9 => refused 4
@@ -1025,10 +1362,15 @@ fn script_lines() {
         "read 1 5\r",
         "\r",
         "\0",
-        "tick 2 0 0 0 0",
-        "tick 0 4294967296 0 0 0",
-        "tick 0 0 256 0 0",
-        "tick 0 0 0 0",
+        "tick 2 0 0 0 0 0 0",
+        "tick 0 4294967296 0 0 0 0 0",
+        "tick 0 0 256 0 0 0 0",
+        "tick 0 0 0 0 256 0 0",
+        "tick 0 0 0 0 0 256 0",
+        "tick 0 0 0 0 0 0 256",
+        "tick 0 0 0 0 0",
+        "tick 0 0 0 0 0 0",
+        "tick 0 0 0 0 0 0 0 0",
         "image 65",
         "image",
         "part 1 65",
@@ -1064,9 +1406,9 @@ fn script_lines() {
     );
     assert_eq!(
         replayed(
-            b"load 0 0 0 0 0 0 0 0 63 0x80 0 0 0x41 32 0 00\nwrite 1 13 1 0\ntick 0 0x3F000000 0x80 0 0\nread 1 10"
+            b"load 0 0 0 0 0 0 0 0 63 0x80 0 0 0x41 32 0 00\nwrite 1 13 1 0\ntick 0 0x3F000000 0x80 0 0 0 0\nread 1 10"
         ),
-        "ok\nok\nposition 0x00000000\nwords 0x40A00000 0x00000080\n"
+        "ok\nok\nposition 0x00000000 position 0\nwords 0x40A00000 0x00000080\n"
     );
     // 4,096 bytes are a line, one more is none, with or without the end.
     let padded = |length: usize| format!("total{}", " ".repeat(length - 5));
@@ -1078,8 +1420,12 @@ fn script_lines() {
     );
     assert_eq!(replayed(format!("{}\ntotal\n", padded(100_000)).as_bytes()), "error\ntotal 0\n");
     assert_eq!(
-        replayed(b"tick 0 0x42480000 0x80 0 128\ntick 1 0 0 0 0\nwrite 3 24 2 0\ntick 0 0 0 0 0\n"),
-        "position 0x00000000\nrest\nok\nsafe\n"
+        replayed(b"tick 0 0x42480000 0x80 0 128 7 0x80\ntick 1 0 0 0 0 0 0\nwrite 3 24 2 0\ntick 0 0 0 0 0 255 0xff\n"),
+        "position 0x00000000 position 0\nrest rest\nok\nsafe position 0\n"
+    );
+    assert_eq!(
+        replayed(b"telegram 2 1 128\ntick 0 0 0 0 0 0 0\nwrite 5 20 2 0\nwrite 3 5 128 0\ntick 0 0 0 0 0 0 0\n"),
+        "ok\nposition 0x00000000 position 1\nok\nok\nrest safe\n"
     );
     assert_eq!(
         replayed(b"write 2 17 0 0\nwrite 2 13 1 0\nfactory\nread 2 13\nwarm\n"),

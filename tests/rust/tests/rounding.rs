@@ -4,7 +4,7 @@
 
 use std::arch::asm;
 
-use comparison::archive::{Archive, Pair};
+use comparison::archive::{Archive, Discrete, Pair};
 use comparison::calls::Head;
 use comparison::model::Model;
 
@@ -16,14 +16,14 @@ const DENORMALS_ARE_ZERO: u32 = DEFAULT | 0x0040;
 
 /// A tick of the archive alone under this MXCSR; what stood in it before stands in it after.
 fn tick_under(mxcsr: u32, head: &mut Archive, ain: Pair) {
-    let tot = Pair { bits: 0, status: 0x80 };
+    let (tot, di) = (Pair { bits: 0, status: 0x80 }, Discrete { value: 0, status: 0x80 });
     let mut before = 0u32;
     // SAFETY: between the two loads stands the call of the archive, and no float operation of Rust's.
     unsafe {
         asm!("stmxcsr [{}]", in(reg) &mut before, options(nostack));
         asm!("ldmxcsr [{}]", in(reg) &mxcsr, options(nostack));
     }
-    head.tick_in_numbers(false, ain, tot);
+    head.tick_in_numbers(false, ain, tot, di);
     unsafe { asm!("ldmxcsr [{}]", in(reg) &before, options(nostack)) };
 }
 
@@ -40,7 +40,7 @@ fn out_by_the_model(high: f32, input: u32) -> u32 {
     let mut head = Model::factory();
     head.write(1, 11, 0, high.to_bits()).expect("a scale");
     head.write(1, 12, 0, high.to_bits()).expect("a scale");
-    head.tick(false, input, 0x80, 0, 0x80);
+    head.tick(false, (input, 0x80), (0, 0x80), (0, 0x80));
     head.read(1, 10).expect("OUT").0
 }
 
