@@ -116,7 +116,8 @@ pub man-stands : (d : Device) (b : ℕ) (x y : Pair) (z : Discrete) (block : ℕ
     → readOf (tickOf (writeOf d block 5 man b .device) false x y z .device) block (outNumber block) ≡ readOf d block (outNumber block)
 unfolding targetIn readOf wordsOf ainWords aoWords diWords doutWords discreteWords entryOf entryIn ain ao di dout discrete tickOf storedIn
     ainWritten aoWritten diWritten doutWritten ainSettings aoSettings diSettings doutSettings operatorBy enteredBy operatorAfter actualMode
-    Ain.tickOf Ain.tickBy Ain.manTick Di.tickOf Di.tickBy Di.manTick Ao.tickOf Ao.tickedWith Ao.givenIn Dout.tickOf Dout.tickedWith Dout.givenIn byMode operatedBy operatedDout
+    Ain.tickOf Ain.tickBy Ain.manTick Di.tickOf Di.tickBy Di.manTick Ao.tickOf Ao.tickedWith Ao.givenIn Dout.tickOf Dout.tickedWith Dout.givenIn
+    byMode operatedBy operatedDout
 man-stands d b x y z =
     operated-each Stands (λ other e. rw (stored d 1 5 man b e, other)) (λ other e. rw (stored d 3 5 man b e, other))
     (λ other e. rw (stored d 4 5 man b e, other)) (λ other e. rw (stored d 5 5 man b e, other))

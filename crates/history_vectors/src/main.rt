@@ -769,7 +769,7 @@ fn ordered_d(name: &[u8], order: dout::Order, value: u8) {
     }
 }
 
-// Ground 6 fresh, and none once the target is Man. OUT_D 2 is 5, before 6. Input 4 is 8, four bytes are 7, as three on input 2 are.
+// Ground 6 fresh, and none once the target is Man. Four bytes are 7.
 fn answers_after() {
     let mut list = [0u8; 128];
     let fresh = history::write_after(b"", 1, 10, 0x4120_0000, 0x80);
@@ -777,18 +777,22 @@ fn answers_after() {
     let at = write(&mut list, 0, 1, 5, 0x10, 0);
     let man = history::write_after(first(&list, at), 1, 10, 0x4120_0000, 0x80);
     numbered(b"a write of OUT, target Man", man, 0);
-    let two = history::write_after(first(&list, at), 4, 10, 2, 0x80);
-    numbered(b"a write of OUT_D 2, target Auto", two, 5);
-    let one = history::write_after(first(&list, at), 5, 10, 1, 0x80);
-    numbered(b"a write of OUT_D 1, target Auto", one, 6);
-    let six = history::write_after(first(&list, at), 6, 1, 0, 0);
-    numbered(b"a write to block 6", six, 1);
-    let input = history::telegram_after(first(&list, at), 4, b"\x01\x80");
-    numbered(b"a telegram on input 4 after a list", input, 8);
-    let three = history::telegram_after(first(&list, at), 2, b"\x01\x80\x00");
-    numbered(b"a telegram of 3 bytes on input 2 after a list", three, 7);
     let four = history::telegram_after(first(&list, at), 1, b"\x42\x48\x00\x00");
     numbered(b"a telegram of 4 bytes after a list", four, 7);
+}
+
+// OUT_D 2 is 5, before 6; block 6 is 1. Input 4 is 8, and three bytes on input 2 are 7.
+fn answers_of_discrete() {
+    let two = history::write_after(b"", 4, 10, 2, 0x80);
+    numbered(b"a write of OUT_D 2, target Auto", two, 5);
+    let one = history::write_after(b"", 5, 10, 1, 0x80);
+    numbered(b"a write of OUT_D 1, target Auto", one, 6);
+    let six = history::write_after(b"", 6, 1, 0, 0);
+    numbered(b"a write to block 6", six, 1);
+    let input = history::telegram_after(b"", 4, b"\x01\x80");
+    numbered(b"a telegram on input 4 after a list", input, 8);
+    let three = history::telegram_after(b"", 2, b"\x01\x80\x00");
+    numbered(b"a telegram of 3 bytes on input 2 after a list", three, 7);
 }
 
 // An image of 18 bytes is 7; of 20 it has five bytes of AIN, of TOT and of AO and two of DI and of DO, fresh 0 with 1F, and its last
@@ -985,6 +989,7 @@ fn main() {
     man_entered_discrete();
     order_after();
     answers_after();
+    answers_of_discrete();
     image_after();
     total_after();
     by_table();
