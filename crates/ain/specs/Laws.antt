@@ -1,6 +1,8 @@
 -- Laws of AIN's tick: when an Auto tick is Good, that OUT stays finite, and that no alarm rises and falls in one tick. Assumes nothing.
 use Prim.Native.Nat.{ℕ}
 use mathlib.Core.Path.{_≡_, refl, sym, ap, _∙_}
+use mathlib.Core.Option.{some}
+use native.Mathlib.Omega.{arith}
 use mathlib.Core.Bool.{Bool, true, false, not, _&&_, _||_, cond, true≢false}
 use lib.Dec.{T, eqb}
 use lib.IntN.{pos}
@@ -22,7 +24,9 @@ use Rattle.wire.specs.Status.{qualityOf}
 use Rattle.blocks.specs.declared.Kept.{Kept}
 use Rattle.blocks.specs.declared.Input.{Input}
 use Rattle.blocks.specs.declared.Input.the-variants.{Usable, Bad}
-use Rattle.blocks.specs.Common.{inputStatus, good}
+use Rattle.blocks.specs.Common.{good}
+use Rattle.blocks.specs.InputBlock.{present, failSafePair}
+use Rattle.blocks.specs.Laws.{present-holds, fail-safe-not-good, fail-safe-holds, input-holds, good-by-input}
 use Rattle.ain.specs.declared.Settings.{Settings}
 use Rattle.ain.specs.declared.Alarms.{Alarms}
 use Rattle.ain.specs.declared.State.{State}
@@ -70,21 +74,6 @@ calculated-unfinished s table old bits h =
     (scaled-unfinished s table bits (measured-unfinished (s .«lin_type») table (floatOf bits) h))
 
 -- ---- when an Auto tick is Good
-fail-safe-not-good : (kind : ℕ) (value : Float) (last : Kept) (scaled : Float) (old : Pair) (bad : ℕ) → good bad ≡ false
-    → good (failSafeOut kind value last scaled old bad .status) ≡ false
-unfolding failSafeOut
-fail-safe-not-good kind value last scaled old bad h = go (eqb kind 0) (eqb kind 1) (last .some) (finite scaled)
-  where
-    go : (a b c d : Bool)
-        → good (cond {A = Pair} a (record { bits = bitsOf value; status = 0x48 })
-        (cond b (cond c (record { bits = bitsOf (last .value); status = 0x44 }) (record { bits = 0; status = 0x4c }))
-        (cond d (record { bits = bitsOf scaled; status = bad }) (record { bits = old .bits; status = bad }))) .status) ≡ false
-    go true b c d = refl
-    go false true true d = refl
-    go false true false d = refl
-    go false false c true = h
-    go false false c false = h
-
 alarm-status-good : (stand : Alarms) (status : ℕ) → good (alarmStatus stand status) ≡ good status
 unfolding alarmStatus
 alarm-status-good stand status = go (eqb (qualityOf status) 2) refl (stand .«hi_hi») (stand .«lo_lo») (stand .hi) (stand .lo)
@@ -98,63 +87,44 @@ alarm-status-good stand status = go (eqb (qualityOf status) 2) refl (stand .«hi
     go true e false false false true = refl
     go true e false false false false = e
 
--- A5: a status that is Bad by itself or counts as Bad is not Good
-other-quality : (status k : ℕ) → eqb (qualityOf status) k ≡ true → eqb k 2 ≡ false → good status ≡ false
-other-quality status k h n = ap (λ (q : ℕ). eqb q 2) (eqb-true (qualityOf status) k h) ∙ n
-
-and-false : (a b : Bool) → b ≡ false → a && b ≡ false
-and-false true b h = h
-and-false false b h = refl
-
-and-true : (a b : Bool) → b ≡ true → a && b ≡ a
-and-true true b h = h
-and-true false b h = refl
-
-right-true : (a b : Bool) → a && b ≡ true → b ≡ true
-right-true true b h = h
-right-true false b h = absurd (true≢false (sym h))
+-- a condition that another implies adds nothing to it
+implied : (a b : Bool) → (a ≡ false → b ≡ false) → a && b ≡ b
+implied true b h = refl
+implied false b h = sym (h refl)
 
 module _ (s : Settings) (table : Table) (st : State) (mode bits status : ℕ) where
   abbrev pv : Float
   pv = calculated s table (st .filter) bits
 
-  outcome : Input → Bool
-  outcome i = good (autoBy s table st mode bits status i .out .status)
+  outcome : Input → ℕ
+  outcome i = autoBy s table st mode bits status i .out .status
 
-  bad-outcome : (bad : ℕ) → good bad ≡ false → outcome (Bad bad) ≡ false
-  unfolding outcome autoBy unusableTick
-  bad-outcome bad h = fail-safe-not-good (s .«fsafe_type») (s .«fsafe_value») (st .last) (scaledValue s table bits) (st .out) bad h
+  bad-outcome : (bad : ℕ) → good bad ≡ false → good (outcome (Bad bad)) ≡ false
+  unfolding outcome autoBy unusableTick failSafeOut
+  bad-outcome bad = fail-safe-not-good 0 (s .«fsafe_type») _ _ _ _ bad
 
-  usable-outcome : outcome Usable ≡ good status
+  usable-outcome : good (outcome Usable) ≡ good status
   unfolding outcome autoBy usableTick
   usable-outcome = alarm-status-good (alarmsOf s (st .alarms) (floatOf (bitsOf pv))) status
 
-  not-both : (a : Bool) → finite (scaledValue s table bits) ≡ a → a && finite pv ≡ false → finite pv ≡ false
+  -- the test of the calculated value alone decides
+  all-finite : finite (floatOf bits) && (finite (scaledValue s table bits) && finite pv) ≡ finite pv
   unfolding calculated
-  not-both true e h = h
-  not-both false e h = filtered-unfinished (s .«pv_ftime») (st .filter) (scaledValue s table bits) e
+  all-finite =
+      ap (λ (b : Bool). finite (floatOf bits) && b)
+      (implied (finite (scaledValue s table bits)) (finite pv) (filtered-unfinished (s .«pv_ftime») (st .filter) (scaledValue s table bits)))
+      ∙ implied (finite (floatOf bits)) (finite pv) (calculated-unfinished s table (st .filter) bits)
 
   -- In Auto, OUT's quality is 2 exactly when the input's is and the calculated value is finite.
   pub good-exactly : good (autoTick s table st mode bits status .out .status) ≡ good status && finite (calculated s table (st .filter) bits)
-  unfolding autoTick inputOf inputStatus outcome
+  unfolding autoTick inputOf outcome
   good-exactly =
-      go (eqb (qualityOf status) 3) refl (eqb (qualityOf status) 0) refl (finite (floatOf bits)) refl (finite (scaledValue s table bits) && finite pv) refl
-    where
-      by : (a b c d : Bool) → Input
-      by a b c d = cond a (Bad 0x04) (cond b (Bad status) (cond (not c) (Bad 0x10) (cond (not d) (Bad 0x04) Usable)))
+      good-by-input status (finite (floatOf bits)) (finite (scaledValue s table bits) && finite pv) outcome bad-outcome usable-outcome
+      ∙ ap (λ (b : Bool). good status && b) all-finite
 
-      go : (a : Bool) → eqb (qualityOf status) 3 ≡ a → (b : Bool) → eqb (qualityOf status) 0 ≡ b → (c : Bool) → finite (floatOf bits) ≡ c → (d : Bool)
-          → finite (scaledValue s table bits) && finite pv ≡ d → outcome (by a b c d) ≡ good status && finite pv
-      go true ea b eb c ec d ed = bad-outcome 0x04 refl ∙ sym (ap (λ (g : Bool). g && finite pv) (other-quality status 3 ea refl))
-      go false ea true eb c ec d ed =
-          let q : good status ≡ false = other-quality status 0 eb refl in
-          bad-outcome status q ∙ sym (ap (λ (g : Bool). g && finite pv) q)
-      go false ea false eb false ec d ed =
-          bad-outcome 0x10 refl ∙ sym (and-false (good status) (finite pv) (calculated-unfinished s table (st .filter) bits ec))
-      go false ea false eb true ec false ed =
-          bad-outcome 0x04 refl ∙ sym (and-false (good status) (finite pv) (not-both (finite (scaledValue s table bits)) refl ed))
-      go false ea false eb true ec true ed =
-          usable-outcome ∙ sym (and-true (good status) (finite pv) (right-true (finite (scaledValue s table bits)) (finite pv) ed))
+right-true : (a b : Bool) → a && b ≡ true → b ≡ true
+right-true true b h = h
+right-true false b h = absurd (true≢false (sym h))
 
 -- ---- OUT stays finite
 -- a single that is finite
@@ -191,45 +161,31 @@ calculated-fits s table old bits = go (eq (s .«pv_ftime») (ofInt binary32 (pos
     go true = scaled-fits s table bits
     go false = add-fits binary32 _ _
 
-fail-safe-finite : (s : Settings) (table : Table) (st : State) → FiniteStore s st → (bits bad : ℕ)
-    → finite (floatOf (failSafeOut (s .«fsafe_type») (s .«fsafe_value») (st .last) (scaledValue s table bits) (st .out) bad .bits)) ≡ true
-unfolding failSafeOut ofBits
-fail-safe-finite s table st h bits bad =
-    go (eqb (s .«fsafe_type») 0) (eqb (s .«fsafe_type») 1) (st .last .some) (h .last) (finite (scaledValue s table bits)) refl
-  where
-    go : (a b c : Bool) → (c ≡ true → Finite (st .last .value)) → (d : Bool) → finite (scaledValue s table bits) ≡ d
-        → finite (floatOf (cond {A = Pair} a (record { bits = bitsOf (s .«fsafe_value»); status = 0x48 })
-        (cond b (cond c (record { bits = bitsOf (st .last .value); status = 0x44 }) (record { bits = 0; status = 0x4c }))
-        (cond d (record { bits = bitsOf (scaledValue s table bits); status = bad }) (record { bits = st .out .bits; status = bad }))) .bits)) ≡ true
-    go true b c l d e = written (s .«fsafe_value») (h .value)
-    go false true true l d e = written (st .last .value) (l refl)
-    go false true false l d e = refl
-    go false false c l true e = written (scaledValue s table bits) (scaled-fits s table bits, e)
-    go false false c l false e = h .out
-
 module _ (s : Settings) (table : Table) (st : State) (h : FiniteStore s st) (mode bits status : ℕ) where
+  finiteOut : State → Type 0
+  finiteOut next = finite (floatOf (next .out .bits)) ≡ true
+
+  held-finite : (bad : ℕ) → finiteOut (autoBy s table st mode bits status (Bad bad))
+  unfolding finiteOut autoBy unusableTick failSafeOut ofBits
+  held-finite bad =
+      fail-safe-holds 0 (s .«fsafe_type») (bitsOf (s .«fsafe_value»)) _ _ (st .out .bits) bad finiteBits refl (written (s .«fsafe_value») (h .value))
+      (present-holds finiteBits (st .last .some) _ (λ e. written (st .last .value) (h .last e)))
+      (present-holds finiteBits (finite (scaledValue s table bits)) _ (λ e. written (scaledValue s table bits) (scaled-fits s table bits, e))) (h .out)
+    where
+      finiteBits : ℕ → Type 0
+      finiteBits b = finite (floatOf b) ≡ true
+
+  usable-finite : finite (calculated s table (st .filter) bits) ≡ true → finiteOut (autoBy s table st mode bits status Usable)
+  unfolding finiteOut autoBy usableTick
+  usable-finite p = written (calculated s table (st .filter) bits) (calculated-fits s table (st .filter) bits, p)
+
   -- OUT of an Auto tick is finite (in Man it is the operator's, in O/S the old one).
   pub out-finite : finite (floatOf (autoTick s table st mode bits status .out .bits)) ≡ true
-  unfolding autoTick inputOf inputStatus autoBy usableTick unusableTick
-  out-finite = go (eqb (qualityOf status) 3) (eqb (qualityOf status) 0) (not (finite (floatOf bits))) (finite (scaledValue s table bits)) (finite pv) refl
-    where
-      pv : Float
-      pv = calculated s table (st .filter) bits
-
-      held : (bad : ℕ) → finite (floatOf (unusableTick s st mode (scaledValue s table bits) bad .out .bits)) ≡ true
-      held bad = fail-safe-finite s table st h bits bad
-
-      go : (a b c d e : Bool) → finite pv ≡ e
-          → finite (floatOf
-          (autoBy s table st mode bits status
-          (cond a (Bad 0x04) (cond b (Bad status) (cond c (Bad 0x10) (cond (not (d && e)) (Bad 0x04) Usable)))) .out .bits))
-          ≡ true
-      go true b c d e p = held 0x04
-      go false true c d e p = held status
-      go false false true d e p = held 0x10
-      go false false false false e p = held 0x04
-      go false false false true false p = held 0x04
-      go false false false true true p = written pv (calculated-fits s table (st .filter) bits, p)
+  unfolding autoTick inputOf finiteOut
+  out-finite =
+      input-holds status (finite (floatOf bits)) (finite (scaledValue s table bits) && finite (calculated s table (st .filter) bits)) finiteOut
+      (autoBy s table st mode bits status) held-finite
+      (λ v k. usable-finite (right-true (finite (scaledValue s table bits)) (finite (calculated s table (st .filter) bits)) k))
 
 -- ---- one alarm in one tick
 -- No alarm rises and falls in one tick: the hysteresis is at least 0, and rounding keeps the order.

@@ -12,7 +12,8 @@ use Rattle.wire.specs.declared.Pair.{Pair}
 use Rattle.blocks.specs.declared.Kept.{Kept}
 use Rattle.blocks.specs.declared.Input.{Input}
 use Rattle.blocks.specs.declared.Input.the-variants.{Usable, Bad}
-use Rattle.blocks.specs.Common.{outOfService, man, actualMode, heldOut, none, kept, inputStatus}
+use Rattle.blocks.specs.Common.{asPair, outOfService, man, actualMode, inMode, heldOut, none, kept, inputStatus}
+use Rattle.blocks.specs.InputBlock.{present, failSafePair}
 use Rattle.ain.specs.declared.Settings.{Settings}
 use Rattle.ain.specs.declared.State.{State}
 use Rattle.ain.specs.Scaling.{scaledOf, filtered}
@@ -35,14 +36,11 @@ unfoldable pub inputOf : Settings → Table → Kept → ℕ → ℕ → Input
 inputOf s table filter bits status =
     inputStatus status (finite (floatOf bits)) (finite (scaledValue s table bits) && finite (calculated s table filter bits))
 
--- A8: an Auto tick that isn't usable, by FSAFE_TYPE: 0 gives FSAFE_VALUE with 0x48; 1 the value that was last usable with 0x44, or, if none was since start,
--- 0 with 0x4C; 2 the scaled value, or the old one of OUT if that isn't finite, under the Bad status. A type over 2, which no write stores, counts as 2
+-- A8: OUT of an Auto tick that isn't usable: what fail-safe gives, with values as bits; the scaled value counts if it is finite
 unfoldable pub failSafeOut : ℕ → Float → Kept → Float → Pair → ℕ → Pair
 failSafeOut kind value last scaled old bad =
-    cond (eqb kind 0) (record { bits = bitsOf value; status = 0x48 })
-    (cond (eqb kind 1)
-    (cond (last .some) (record { bits = bitsOf (last .value); status = 0x44 }) (record { bits = 0; status = 0x4c }))
-    (cond (finite scaled) (record { bits = bitsOf scaled; status = bad }) (record { bits = old .bits; status = bad })))
+    asPair
+    (failSafePair 0 kind (bitsOf value) (present (last .some) (bitsOf (last .value))) (present (finite scaled) (bitsOf scaled)) (old .bits) bad)
 
 -- A7: a usable Auto tick gives PV, which is then the filter value (A3) and the last usable one. A10, A12: alarms go by this OUT, whose status shows them
 unfoldable pub usableTick : Settings → State → ℕ → Float → ℕ → State
@@ -103,9 +101,7 @@ outOfServiceTick st = record {
 
 -- M1: by the actual mode; a code that is neither O/S nor Man counts as Auto
 unfoldable pub tickBy : Settings → Table → State → ℕ → ℕ → ℕ → State
-tickBy s table st mode bits status =
-    cond (eqb mode outOfService) (outOfServiceTick st)
-    (cond (eqb mode man) (manTick s st) (autoTick s table st mode bits status))
+tickBy s table st mode bits status = inMode mode (outOfServiceTick st) (manTick s st) (autoTick s table st mode bits status)
 
 unfoldable pub tickOf : Settings → Table → State → Bool → ℕ → ℕ → State
 unfolding tickBy

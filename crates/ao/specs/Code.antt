@@ -3,7 +3,7 @@ use Prim.Native.Nat.{ℕ}
 use lib.Ieee.{Float}
 use Rattle.ao.specs.declared.Given.{Given}
 use Rattle.ao.specs.declared.Case.{Case as CaseInCode}
-use Rattle.ao.specs.FailSafe.{Case, following, fallback, held, nothingHeld, safety, GivenOf}
+use Rattle.blocks.specs.FailSafe.{Case, following, fallback, held, nothingHeld, safety, GivenOf}
 use Rattle.ao.specs.Tick.{driveOrder}
 
 abbrev pub ruleCase : CaseInCode → Case Float

@@ -1,5 +1,4 @@
 -- The definitions that `ao`'s contracts cite, and the laws that its callers cite.
-pub mod FailSafe
 pub mod State
 pub mod Telegram
 pub mod Tick

@@ -6,7 +6,7 @@ use Rattle.wire.specs.declared.Pair.{Pair}
 use Rattle.blocks.specs.Common.{outOfService, freshOperator}
 use Rattle.ao.specs.declared.Input.{Input}
 use Rattle.ao.specs.declared.State.{State}
-use Rattle.ao.specs.FailSafe.{InputOf, emptied}
+use Rattle.blocks.specs.FailSafe.{InputOf, emptied}
 
 -- an input as the rules have it, and as the state holds it
 abbrev pub inputOf : Input → InputOf Float

@@ -6,15 +6,13 @@ use lib.Dec.{eqb, ltb}
 use lib.Ieee.Scale.{finite}
 use Rattle.numbers.specs.Floats.{floatOf}
 use Rattle.wire.specs.declared.Pair.{Pair}
-use Rattle.wire.specs.declared.Refusal.{Refusal}
-use Rattle.wire.specs.Refusal.{ground}
-use Rattle.wire.specs.declared.Answer.{Answer}
 use Rattle.wire.specs.declared.Received.{Received}
 use Rattle.wire.specs.Bytes.{pairOf}
 use Rattle.ao.specs.declared.Input.{Input}
 use Rattle.ao.specs.declared.State.{State}
 use Rattle.ao.specs.declared.Taken.{Taken}
-use Rattle.ao.specs.FailSafe.{afterTelegram}
+use Rattle.blocks.specs.FailSafe.{afterTelegram}
+use Rattle.blocks.specs.Output.{ReceivedOf, TakenOf, telegramBy}
 use Rattle.ao.specs.State.{inputOf, inputFrom}
 
 -- O1: an input after a telegram on it, by whether its value is finite
@@ -29,14 +27,14 @@ takenOn state input pair =
     (record { out = state .out; mode = state .mode; operator = state .operator; sp = inputAfter (state .sp) pair; «rcas_in» = state .«rcas_in» })
     (record { out = state .out; mode = state .mode; operator = state .operator; sp = state .sp; «rcas_in» = inputAfter (state .«rcas_in») pair })
 
--- a refused telegram leaves the state as it was
-abbrev pub refusedWith : State → Refusal → Taken
-refusedWith state r = record { state = state; answer = Answer.Refused r }
+-- what bytes stand for, and a state with the answer, as the rules have them and as the code does
+abbrev pub received : Received → ReceivedOf Pair
+received (Received.Value pair) = ReceivedOf.accepted pair
+received (Received.Refused r) = ReceivedOf.refused r
 
-abbrev pub receivedOn : State → ℕ → Received → Taken
-receivedOn state input (Received.Value pair) = record { state = takenOn state input pair; answer = Answer.Accepted }
-receivedOn state input (Received.Refused r) = refusedWith state r
+abbrev pub takenFrom : TakenOf State → Taken
+takenFrom t = record { state = t .state; answer = t .answer }
 
--- F2, F9, F10: refused first for an input that AO lacks, then for its length
+-- F2, F9, F10: AO lacks the inputs over 1
 unfoldable pub telegramOf : State → ℕ → List ℕ → Taken
-telegramOf state input bytes = cond (ltb 1 input) (refusedWith state (ground 8)) (receivedOn state input (pairOf bytes))
+telegramOf state input bytes = takenFrom (telegramBy (ltb 1 input) (takenOn state input) state (received (pairOf bytes)))

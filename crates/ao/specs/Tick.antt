@@ -13,7 +13,7 @@ use Rattle.ao.specs.declared.Input.{Input}
 use Rattle.ao.specs.declared.State.{State}
 use Rattle.ao.specs.declared.Order.{Order}
 use Rattle.ao.specs.declared.Ticked.{Ticked}
-use Rattle.ao.specs.FailSafe.{Case, OrderOf, position, safe, rest, GivenOf, leadsTo, byMode, caseOf, afterTick}
+use Rattle.blocks.specs.FailSafe.{Case, OrderOf, position, safe, rest, GivenOf, leadsTo, byMode, caseOf, afterTick}
 use Rattle.ao.specs.State.{inputOf, inputFrom}
 
 -- ---- scaling

@@ -1,11 +1,12 @@
 // AO, the analog output block (document 01, AO tick): setpoint telegrams on two inputs, fail-safe, scaling, and the
 // order that drives the valve.
 ghost use mathlib.Core.Path.{_≡_};
-ghost use Rattle.ao.specs.FailSafe.{classOf, silenceAfter, failSafeActs, failSafeCase, positioned, scaledOr};
+ghost use Rattle.blocks.specs.FailSafe.{failSafeCase, positioned, scaledOr};
 ghost use Rattle.ao.specs.State.{freshState, started, warmStarted, operatedBy, noTelegrams};
 ghost use Rattle.ao.specs.Telegram.{inputAfter, takenOn, telegramOf};
 ghost use Rattle.ao.specs.Tick.{scaledOut, outOf, givenBy, caseBy, inputUsed, givenIn, inputAfterTick, tickOf};
 ghost use Rattle.ao.specs.Code.{ruleCase, givenOf};
+use blocks::Class;
 use numbers::floats::bits_of;
 use numbers::floats::float_of;
 use numbers::floats::is_finite;
@@ -45,13 +46,6 @@ pub struct State {
     pub operator: Pair,
     pub sp: Input,
     pub rcas_in: Input,
-}
-
-// What a status byte makes of a telegram, its value left aside.
-pub enum Class {
-    Usable,
-    InitiateFailSafe,
-    Neither,
 }
 
 // The drive order.
@@ -147,29 +141,13 @@ pub fn operated(state: State, pair: Pair) -> State
 
 // ---- telegrams
 
-pub fn class_of(status: u8) -> Class
-    ensures { λ r. ⌜ r ≡ classOf status ⌝ }
-{
-    let quality = wire::quality(status);
-    let sub_status = wire::sub_status(status);
-    let good = (quality == 2) | (quality == 3);
-    let initiates = sub_status == 8;
-    if good {
-        if initiates {
-            return Class::InitiateFailSafe;
-        }
-        return Class::Usable;
-    }
-    Class::Neither
-}
-
 // The input after a telegram on it.
 fn heard(input: Input, pair: Pair) -> Input
     ensures { λ r. ⌜ r ≡ inputAfter input pair ⌝ }
 {
     let value = float_of(pair.bits);
     let finite = is_finite(value);
-    let class = class_of(pair.status);
+    let class = blocks::class_of(pair.status);
     match class {
         Class::Usable => {
             if finite {
@@ -249,12 +227,6 @@ pub fn telegram(state: State, input: u8, bytes: &[u8]) -> Taken
 
 // ---- the decision
 
-fn fail_safe_acts(some: bool, n: u32, ifs: bool, time: u32) -> bool
-    ensures { λ r. ⌜ r ≡ failSafeActs some n ifs time ⌝ }
-{
-    !some | (n > time) | ifs
-}
-
 fn fail_safe_case(kind: u32, fsafe_value: f32, some: bool, last: f32) -> Case
     ensures { λ r. ⌜ ruleCase r ≡ failSafeCase kind «fsafe_value» some last ⌝ }
 {
@@ -276,7 +248,7 @@ fn fail_safe_case(kind: u32, fsafe_value: f32, some: bool, last: f32) -> Case
 fn case_of(settings: Settings, input: Input) -> Case
     ensures { λ r. ⌜ ruleCase r ≡ caseBy settings input ⌝ }
 {
-    let acts = fail_safe_acts(input.some, input.silence, input.ifs, settings.fsafe_time);
+    let acts = blocks::fail_safe_acts(input.some, input.silence, input.ifs, settings.fsafe_time);
     if acts {
         return fail_safe_case(
             settings.fsafe_type,
@@ -385,24 +357,11 @@ fn given_in(settings: Settings, state: State, mode: u32) -> Given
     given_by(settings, old, case)
 }
 
-// n after a tick.
-fn silence_after(some: bool, n: u32) -> u32
-    ensures { λ r. ⌜ r ≡ silenceAfter some n ⌝ }
-{
-    if some {
-        if n < 65536 {
-            return n + 1;
-        }
-        return 65536;
-    }
-    0
-}
-
 fn after_tick(input: Input) -> Input
     ensures { λ r. ⌜ r ≡ inputAfterTick input ⌝ }
 {
     let mut next = input;
-    next.silence = silence_after(input.some, input.silence);
+    next.silence = blocks::silence_after(input.some, input.silence);
     next
 }
 

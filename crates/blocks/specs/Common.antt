@@ -1,14 +1,31 @@
--- What the function blocks have in common: document 01, Mode, Parameters and AIN tick (input status), and document 02,
--- request 2. Assumes nothing.
+-- What the function blocks have in common, for either kind of value: document 01, Mode, Parameters and AIN tick (input status), and document 02, requests 2
+-- and 3. Assumes nothing.
 use Prim.Native.Nat.{ℕ}
 use mathlib.Core.Bool.{Bool, true, false, not, _&&_, _||_, cond}
 use lib.Dec.{eqb}
 use lib.Ieee.{Float, binary32, ofBits}
 use Rattle.wire.specs.declared.Pair.{Pair}
+use Rattle.wire.specs.declared.Discrete.{Discrete}
 use Rattle.wire.specs.Status.{qualityOf}
 use Rattle.blocks.specs.declared.Kept.{Kept}
 use Rattle.blocks.specs.declared.Input.{Input}
 use Rattle.blocks.specs.declared.Input.the-variants.{Usable, Bad}
+
+-- ---- pairs
+
+-- a value, of any type A, and its status
+pub record PairOf (A : Type 0) : Type 0 where
+  pub value : A
+  pub status : ℕ
+
+-- S4, Q3.4a: as the code has it: a float by its bits, and a discrete value by its byte
+abbrev pub asPair : PairOf ℕ → Pair
+asPair p = record { bits = p .value; status = p .status }
+
+abbrev pub asDiscrete : PairOf ℕ → Discrete
+asDiscrete p = record { value = p .value; status = p .status }
+
+-- ---- modes
 
 -- P10: the codes of the modes; RCas is AO's alone
 abbrev pub outOfService : ℕ
@@ -27,18 +44,42 @@ rcas = 0x02
 unfoldable pub actualMode : Bool → ℕ → ℕ
 actualMode fault target = cond (fault || eqb target outOfService) outOfService target
 
+-- what belongs to a tick's actual mode: O/S, Man, or another, which in an input block is Auto
+abbrev pub inMode : {X : Type 0} → ℕ → X → X → X → X
+inMode mode inOutOfService inMan inAuto = cond (eqb mode outOfService) inOutOfService (cond (eqb mode man) inMan inAuto)
+
+-- ---- outputs and the operator's pair
+
 -- M2, M3: an output that is only held, in O/S and after a warm start
+abbrev pub heldAt : {A : Type 0} → A → PairOf A
+heldAt value = record { value = value; status = 0x1f }
+
 abbrev pub heldOut : Pair → Pair
-heldOut out = record { bits = out .bits; status = 0x1f }
+heldOut out = asPair (heldAt (out .bits))
 
--- P15: the operator's pair before a write of OUT
+abbrev pub heldOutD : Discrete → Discrete
+heldOutD out = asDiscrete (heldAt (out .value))
+
+-- P15: the operator's pair before a write of OUT: the type's zero
+abbrev pub freshAt : {A : Type 0} → A → PairOf A
+freshAt zero = record { value = zero; status = 0x4c }
+
 abbrev pub freshOperator : Pair
-freshOperator = record { bits = 0; status = 0x4c }
+freshOperator = asPair (freshAt 0)
 
--- Q2.4: the operator's pair after an accepted write of the target: where that changes it to Man from another target, what was last given. Q2.5: otherwise,
--- Man over Man too, the pair stays. Said over any type A of pair: nothing here depends on the kind of value
+abbrev pub freshOperatorD : Discrete
+freshOperatorD = asDiscrete (freshAt 0)
+
+-- Q2.4: a write of the target enters Man: it changes it to Man from another target. Q2.5: Man over Man doesn't
+abbrev pub enteredMan : ℕ → ℕ → Bool
+enteredMan old new = eqb new man && not (eqb old man)
+
+-- Q2.4: the operator's pair after an accepted write of the target: on entering Man what was last given, otherwise it stays. Said over any type A of pair:
+-- nothing here depends on the kind of value
 unfoldable pub operatorAfter : {A : Type 0} → ℕ → ℕ → A → A → A
-operatorAfter old new given operator = cond (eqb new man && not (eqb old man)) given operator
+operatorAfter old new given operator = cond (enteredMan old new) given operator
+
+-- ---- inputs
 
 -- a value that may be missing
 abbrev pub none : Kept

@@ -13,16 +13,14 @@ use Rattle.wire.specs.declared.Pair.{Pair}
 use Rattle.wire.specs.declared.Answer.{Answer}
 use Rattle.wire.specs.declared.Answer.the-variants.{Accepted, Refused}
 use Rattle.wire.specs.declared.Refusal.{Refusal}
-use Rattle.wire.specs.declared.Refusal.the-variants.{NoSuchInput}
-use Rattle.wire.specs.declared.Received.{Received}
-use Rattle.wire.specs.Bytes.{pairOf as received}
+use Rattle.wire.specs.Bytes.{pairOf}
 use Rattle.scaling.specs.declared.Scale.{Scale}
+use Rattle.blocks.specs.Laws.{refused-keeps}
 use Rattle.ain.specs.declared.State.{State as AinState}
 use Rattle.tot.specs.declared.State.{State as TotState}
 use Rattle.ao.specs.declared.State.{State as AoState}
-use Rattle.ao.specs.declared.Taken.{Taken}
 use Rattle.ao.specs.State.{operatedBy}
-use Rattle.ao.specs.Telegram.{refusedWith, receivedOn, telegramOf as aoTelegram}
+use Rattle.ao.specs.Telegram.{takenOn, received, telegramOf as aoTelegram}
 use Rattle.parameters.specs.declared.Words.{Words}
 use Rattle.parameters.specs.declared.Class.the-variants.{N}
 use Rattle.parameters.specs.declared.Allowed.the-variants.{Lock}
@@ -114,16 +112,9 @@ warm-start-keeps d = states-still d (warmStarted d .ain .state) (warmStarted d .
 pub refused-telegram : (d : Device) (input : ℕ) (bytes : List ℕ) (r : Refusal) → telegramOf d input bytes .answer ≡ Refused r
     → telegramOf d input bytes .device ≡ d
 unfolding telegramOf aoTelegram
-refused-telegram d input bytes r = go (ltb 1 input) (received bytes)
-  where
-    after : Taken → Device
-    after t = withStates d (d .ain .state) (d .tot .state) (t .state)
-
-    go : (p : Bool) (x : Received) → cond p (refusedWith (d .ao .state) NoSuchInput) (receivedOn (d .ao .state) input x) .answer ≡ Refused r
-        → after (cond p (refusedWith (d .ao .state) NoSuchInput) (receivedOn (d .ao .state) input x)) ≡ d
-    go true x e = refl
-    go false (Received.Value pair) e = cc
-    go false (Received.Refused s) e = refl
+refused-telegram d input bytes r h =
+    ap (λ (x : AoState). withStates d (d .ain .state) (d .tot .state) x)
+    (refused-keeps (ltb 1 input) (takenOn (d .ao .state) input) (d .ao .state) (received (pairOf bytes)) r h)
 
 -- ---- accepted writes
 

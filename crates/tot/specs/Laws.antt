@@ -23,6 +23,7 @@ use Rattle.tot.specs.declared.Settings.{Settings}
 use Rattle.tot.specs.declared.State.{State}
 use Rattle.tot.specs.Total.{totalFactor, rateFactor, valueLimit, incrementLimit, totalLimit, incrementOf, wanted, thousandthsOf, sumOf, nextTotal}
 use Rattle.tot.specs.Total.{valueGiven, givenBits}
+use Rattle.blocks.specs.Laws.{mode-holds}
 use Rattle.tot.specs.Tick.{tickAdds, autoTotal, autoTick, manTick, outOfServiceTick, tickBy, tickOf}
 
 -- ---- the limits
@@ -114,12 +115,7 @@ next-within setTot presetTot total z h = go (eqb setTot 0) (eqb setTot 1)
 by-mode : (s : Settings) (st : State) (mode bits status : ℕ) (P : ℤ → Type 0)
     → P (st .total) → P (autoTotal s (st .total) (st .rate) bits status) → P (tickBy s st mode bits status .total)
 unfolding tickBy outOfServiceTick manTick autoTick
-by-mode s st mode bits status P p q = go (eqb mode outOfService) (eqb mode man)
-  where
-    go : (a b : Bool) → P (cond a (outOfServiceTick st) (cond b (manTick st) (autoTick s st mode bits status)) .total)
-    go true b = p
-    go false true = p
-    go false false = q
+by-mode s st mode bits status P p q = mode-holds (λ (x : State). P (x .total)) mode (outOfServiceTick st) (manTick st) (autoTick s st mode bits status) p p q
 
 -- from a total within its limit to one within it
 pub tick-within : (s : Settings) (st : State) (fault : Bool) (bits status : ℕ) → Writable (s .«preset_tot») → natAbs (st .total) ≤ totalLimit

@@ -9,7 +9,7 @@ use Rattle.numbers.specs.Floats.{floatOf}
 use Rattle.blocks.specs.declared.Kept.{Kept}
 use Rattle.blocks.specs.declared.Input.{Input}
 use Rattle.blocks.specs.declared.Input.the-variants.{Usable, Bad}
-use Rattle.blocks.specs.Common.{outOfService, man, actualMode, heldOut, none, kept, inputStatus}
+use Rattle.blocks.specs.Common.{outOfService, man, actualMode, inMode, heldOut, none, kept, inputStatus}
 use Rattle.tot.specs.declared.Settings.{Settings}
 use Rattle.tot.specs.declared.State.{State}
 use Rattle.tot.specs.Total.{incrementOf, wanted, nextTotal, givenBits}
@@ -94,8 +94,7 @@ outOfServiceTick st = record {
 
 -- M1: by the actual mode; a code that is neither O/S nor Man counts as Auto
 unfoldable pub tickBy : Settings → State → ℕ → ℕ → ℕ → State
-tickBy s st mode bits status =
-    cond (eqb mode outOfService) (outOfServiceTick st) (cond (eqb mode man) (manTick st) (autoTick s st mode bits status))
+tickBy s st mode bits status = inMode mode (outOfServiceTick st) (manTick st) (autoTick s st mode bits status)
 
 unfoldable pub tickOf : Settings → State → Bool → ℕ → ℕ → State
 unfolding tickBy

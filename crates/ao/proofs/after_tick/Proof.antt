@@ -1,6 +1,6 @@
 -- `ao::after_tick` meets its contract: `silence_after` counts, and the rest is kept.
 -- Assumes nothing.
-use Rattle.ao.specs.FailSafe.{afterTick}
+use Rattle.blocks.specs.FailSafe.{afterTick}
 use borrow.Author.Needs.{needs}
 use Rattle.ao.proofs.after_tick.Statement.{statement}
 use Rattle.ao.proofs.after_tick.Tie as tie

@@ -1,6 +1,6 @@
 -- `ao::case_of` meets its contract: the decision and the case are the definition's.
 -- Assumes nothing.
-use Rattle.ao.specs.FailSafe.{caseOf}
+use Rattle.blocks.specs.FailSafe.{caseOf}
 use borrow.Author.Needs.{needs}
 use Rattle.ao.proofs.case_of.Statement.{statement}
 use Rattle.ao.proofs.case_of.Tie as tie

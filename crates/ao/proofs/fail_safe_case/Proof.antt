@@ -1,6 +1,6 @@
 -- `ao::fail_safe_case` meets its contract: the tests are the definition's.
 -- Assumes nothing.
-use Rattle.ao.specs.FailSafe.{failSafeCase}
+use Rattle.blocks.specs.FailSafe.{failSafeCase}
 use Rattle.ao.proofs.fail_safe_case.Statement.{statement}
 use Rattle.ao.proofs.fail_safe_case.Tie as tie
 

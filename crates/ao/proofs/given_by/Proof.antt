@@ -1,6 +1,6 @@
 -- `ao::given_by` meets its contract: each arm gives what the definition says of its case.
 -- Assumes nothing.
-use Rattle.ao.specs.FailSafe.{leadsTo}
+use Rattle.blocks.specs.FailSafe.{leadsTo}
 use Rattle.ao.specs.Tick.{givenBy}
 use borrow.Author.Needs.{needs}
 use Rattle.ao.proofs.given_by.Statement.{statement}

@@ -1,6 +1,6 @@
 -- `ao::given_in` meets its contract: the tests of the mode are the definition's, in its order.
 -- Assumes nothing.
-use Rattle.ao.specs.FailSafe.{byMode}
+use Rattle.blocks.specs.FailSafe.{byMode}
 use Rattle.ao.specs.Tick.{givenByInput, givenIn}
 use borrow.Author.Needs.{needs}
 use Rattle.ao.proofs.given_in.Statement.{statement}

@@ -1,6 +1,6 @@
 -- `ao::heard` meets its contract: the class of the status byte decides, and for a usable one the test of the value.
 -- Assumes nothing.
-use Rattle.ao.specs.FailSafe.{afterTelegram, usable, initiates}
+use Rattle.blocks.specs.FailSafe.{afterTelegram, usable, initiates}
 use Rattle.ao.specs.Telegram.{inputAfter}
 use borrow.Author.Needs.{needs}
 use Rattle.ao.proofs.heard.Statement.{statement}

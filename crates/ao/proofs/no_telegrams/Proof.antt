@@ -1,7 +1,7 @@
 -- `ao::no_telegrams` meets its contract: the code is the definition.
 -- Assumes nothing.
 use mathlib.Core.Path.{refl}
-use Rattle.ao.specs.FailSafe.{emptied}
+use Rattle.blocks.specs.FailSafe.{emptied}
 use Rattle.ao.specs.State.{noTelegrams}
 use Rattle.ao.proofs.no_telegrams.Statement.{statement}
 use Rattle.ao.proofs.no_telegrams.Tie as tie
