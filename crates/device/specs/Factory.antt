@@ -1,4 +1,5 @@
--- The blocks' settings by their parameters' words, and the device that the factory call gives: document 01, Parameters and Mode. Assumes nothing.
+-- The blocks' settings by their parameters' words, and the device that the factory call gives: document 01, Parameters and Mode, and
+-- document 02, request 3. Assumes nothing.
 use Prim.Native.Nat.{ℕ}
 use lib.Ieee.{Float}
 use Rattle.numbers.specs.Floats.{floatOf}
@@ -10,10 +11,14 @@ use Rattle.tot.specs.declared.Settings.{Settings as TotSettings}
 use Rattle.tot.specs.State.{freshState as freshTot}
 use Rattle.ao.specs.declared.Settings.{Settings as AoSettings}
 use Rattle.ao.specs.State.{freshState as freshAo}
+use Rattle.di.specs.declared.Settings.{Settings as DiSettings}
+use Rattle.di.specs.State.{freshState as freshDi}
+use Rattle.dout.specs.declared.Settings.{Settings as DoutSettings}
+use Rattle.dout.specs.State.{freshState as freshDout}
 use Rattle.parameters.specs.declared.Words.{Words}
 use Rattle.parameters.specs.Table.{defaultOf}
 use Rattle.device.specs.declared.Device.{Device}
-use Rattle.device.specs.Stored.{scaleOf}
+use Rattle.device.specs.Stored.{scaleOf, Codes, diFrom, doutFrom}
 
 -- words for every block and number
 abbrev pub Valuation : Type 0
@@ -65,6 +70,17 @@ aoBy v = record {
   «increase_close» = codeBy v 3 36;
 }
 
+-- Q3.2a: DI or DO, by its block's number
+abbrev pub codesBy : Valuation → ℕ → Codes
+codesBy v block = record { target = codeBy v block 5; invert = codeBy v block 15; kind = codeBy v block 20; value = codeBy v block 21 }
+
+unfoldable pub diBy : Valuation → DiSettings
+diBy v = diFrom (codesBy v 4)
+
+-- Q3.2b: and FSAFE_TIME
+unfoldable pub doutBy : Valuation → DoutSettings
+doutBy v = doutFrom (codesBy v 5) (codeBy v 5 22)
+
 -- C1, P4: the defaults, fresh blocks, no static write yet and no table
 unfoldable pub factoryDevice : Device
 factoryDevice = record {
@@ -72,4 +88,6 @@ factoryDevice = record {
   ain = record { settings = ainBy defaultOf; state = freshAin; «st_rev» = 0; table = noTable };
   tot = record { settings = totBy defaultOf; state = freshTot; «st_rev» = 0 };
   ao = record { settings = aoBy defaultOf; state = freshAo; «st_rev» = 0 };
+  di = record { settings = diBy defaultOf; state = freshDi; «st_rev» = 0 };
+  dout = record { settings = doutBy defaultOf; state = freshDout; «st_rev» = 0 };
 }

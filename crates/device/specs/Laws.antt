@@ -1,4 +1,4 @@
--- Laws of calls and reads, document 01, Parameters and Refused calls: what an accepted write, a refused call, a tick, a telegram and a warm start
+-- Laws of calls and reads, document 01, Parameters and Refused calls, and document 02, request 3: what an accepted write, a refused call, a tick, a telegram and a warm start
 -- do to what reads give. They hold of every device. Assumes nothing.
 use Prim.Native.Nat.{ℕ, _<_, _^_}
 use mathlib.Core.Path.{_≡_, refl, sym, ap, _∙_, subst}
@@ -10,36 +10,44 @@ use lib.Ieee.{Float}
 use lib.Ieee.Fits.{and-l, and-r, and-i}
 use borrow.Author.Tests.{eqb-true, eq-eqb, ne-eqb}
 use Rattle.wire.specs.declared.Pair.{Pair}
+use Rattle.wire.specs.declared.Discrete.{Discrete}
 use Rattle.wire.specs.declared.Answer.{Answer}
 use Rattle.wire.specs.declared.Answer.the-variants.{Accepted, Refused}
 use Rattle.wire.specs.declared.Refusal.{Refusal}
-use Rattle.wire.specs.Bytes.{pairOf}
+use Rattle.wire.specs.Bytes.{pairOf, discreteOf}
 use Rattle.scaling.specs.declared.Scale.{Scale}
 use Rattle.blocks.specs.Laws.{refused-keeps}
 use Rattle.ain.specs.declared.State.{State as AinState}
 use Rattle.tot.specs.declared.State.{State as TotState}
 use Rattle.ao.specs.declared.State.{State as AoState}
 use Rattle.ao.specs.State.{operatedBy}
-use Rattle.ao.specs.Telegram.{takenOn, received, telegramOf as aoTelegram}
+use Rattle.ao.specs.Telegram.{takenOn, received, telegramOf as takenByAo}
+use Rattle.di.specs.declared.State.{State as DiState}
+use Rattle.dout.specs.declared.State.{State as DoutState}
+use Rattle.dout.specs.State.{operatedBy as doutOperated}
+use Rattle.dout.specs.Telegram.{lacking, takenOn as doutTakenOn, received as doutReceived, telegramOf as takenByDout}
 use Rattle.parameters.specs.declared.Words.{Words}
 use Rattle.parameters.specs.declared.Class.the-variants.{N}
 use Rattle.parameters.specs.declared.Allowed.the-variants.{Lock}
 use Rattle.parameters.specs.declared.Entry.{Entry}
 use Rattle.parameters.specs.declared.Entry.the-variants.{NoBlock, NoParameter, Parameter}
-use Rattle.parameters.specs.Table.{Row, words, physical, ain, tot, ao, entryIn, entryOf, isStatic}
+use Rattle.parameters.specs.Table.{Row, words, physical, ain, tot, ao, discrete, di, dout, entryIn, entryOf, isStatic}
 use Rattle.parameters.specs.Words.{allowsOf}
 use Rattle.parameters.specs.Refused.{readOnly, storedEntry, ground}
 use Rattle.parameters.specs.Laws.{by-block, no-block, by-rows, _also_, takes, accepted-takes, shownBy, shown-back}
 use Rattle.device.specs.declared.AinBlock.{AinBlock}
 use Rattle.device.specs.declared.TotBlock.{TotBlock}
 use Rattle.device.specs.declared.AoBlock.{AoBlock}
+use Rattle.device.specs.declared.DiBlock.{DiBlock}
+use Rattle.device.specs.declared.DoutBlock.{DoutBlock}
 use Rattle.device.specs.declared.Device.{Device}
 use Rattle.device.specs.declared.Answered.{Answered}
 use Rattle.device.specs.declared.Reading.{Reading}
 use Rattle.device.specs.declared.Reading.the-variants.{Read}
-use Rattle.device.specs.Stored.{revAfter, ainSettings, totSettings, aoSettings, ainWritten, totWritten, aoWritten, storedIn}
-use Rattle.device.specs.Read.{code, float, ends, ainWords, totWords, aoWords, wordsOf, readBy, readOf}
-use Rattle.device.specs.Calls.{standingOf, writeBy, writeOf, tickOf, telegramOf, warmStarted}
+use Rattle.device.specs.Stored.{revAfter, ainSettings, totSettings, aoSettings, diSettings, doutSettings}
+use Rattle.device.specs.Stored.{ainWritten, totWritten, aoWritten, diWritten, doutWritten, storedIn}
+use Rattle.device.specs.Read.{code, float, ends, ainWords, totWords, aoWords, diWords, doutWords, wordsOf, readBy, readOf}
+use Rattle.device.specs.Calls.{standingOf, writeBy, writeOf, tickOf, aoTelegram, doutTelegram, telegramOf, warmStarted}
 
 -- what an accepted write moves of what reads give: the parameter written if it is stored, and its block's ST_REV if it is static
 abbrev pub moves : ℕ → ℕ → ℕ → ℕ → Bool
@@ -53,7 +61,7 @@ pub record WriteLaw (d : Device) (block number a b : ℕ) (r : Answered) : Type 
   -- R11: ST_REV counts a static write, whatever it changes
   pub counted : (rev : ℕ) → r .answer ≡ Accepted → 0 < block → readOf d block 1 ≡ Read (words rev 0)
       → readOf (r .device) block 1 ≡ Read (words (revAfter (isStatic block number) rev) 0)
-  -- every other read is as before; a write of OUT or TOTAL moves none
+  -- every other read is as before; a write of OUT, OUT_D or TOTAL moves none
   pub others : (block′ number′ : ℕ) → moves block number block′ number′ ≡ false → readOf (r .device) block′ number′ ≡ readOf d block′ number′
   -- R3: a refused write leaves the device as it was
   pub refused : (x : Refusal) → r .answer ≡ Refused x → r .device ≡ d
@@ -63,58 +71,75 @@ pub record WriteLaw (d : Device) (block number a b : ℕ) (r : Answered) : Type 
 -- ---- what only ticks and starts move
 
 -- the device with other block states
-abbrev withStates : Device → AinState → TotState → AoState → Device
-withStates d x y z = record {
+abbrev withStates : Device → AinState → TotState → AoState → DiState → DoutState → Device
+withStates d x y z u v = record {
   «write_locking» = d .«write_locking»;
   ain = record { settings = d .ain .settings; state = x; «st_rev» = d .ain .«st_rev»; table = d .ain .table };
   tot = record { settings = d .tot .settings; state = y; «st_rev» = d .tot .«st_rev» };
   ao = record { settings = d .ao .settings; state = z; «st_rev» = d .ao .«st_rev» };
+  di = record { settings = d .di .settings; state = u; «st_rev» = d .di .«st_rev» };
+  dout = record { settings = d .dout .settings; state = v; «st_rev» = d .dout .«st_rev» };
 }
+
+-- and with those of another device
+abbrev statesOf : Device → Device → Device
+statesOf d e = withStates d (e .ain .state) (e .tot .state) (e .ao .state) (e .di .state) (e .dout .state)
 
 -- stored parameters and ST_REV
 abbrev pub lasting : ℕ → Entry → Bool
 lasting number e = storedEntry e || eqb number 1
 
-states-still : (d : Device) (x : AinState) (y : TotState) (z : AoState) (block number : ℕ) → T (lasting number (entryOf block number))
-    → readOf (withStates d x y z) block number ≡ readOf d block number
-unfolding readOf wordsOf ainWords totWords aoWords physical ain tot ao
-states-still d x y z =
+states-still : (d e : Device) (block number : ℕ) → T (lasting number (entryOf block number)) → readOf (statesOf d e) block number ≡ readOf d block number
+unfolding readOf wordsOf ainWords totWords aoWords diWords doutWords physical ain tot ao discrete di dout
+states-still d e =
     by-rows
     lasting
-    (λ block number e. readBy (wordsOf (withStates d x y z) block number) e ≡ readBy (wordsOf d block number) e)
+    (λ block number r. readBy (wordsOf (statesOf d e) block number) r ≡ readBy (wordsOf d block number) r)
     (λ block number t. refl)
     (λ block number t. refl)
     (refl also tt)
     (refl also refl also refl also refl also refl also refl also refl also refl also refl also refl also refl also refl also refl also tt)
     (refl also refl also refl also refl also refl also refl also tt)
     (refl also refl also refl also refl also refl also refl also refl also refl also tt)
+    (refl also refl also refl also refl also refl also tt)
+    (refl also refl also refl also refl also refl also refl also tt)
 
 -- R17: a tick, a telegram and a warm start leave stored parameters and ST_REV.
-pub tick-keeps : (d : Device) (fault : Bool) (x y : Pair) (block number : ℕ) → T (lasting number (entryOf block number))
-    → readOf (tickOf d fault x y .device) block number ≡ readOf d block number
+pub tick-keeps : (d : Device) (fault : Bool) (x y : Pair) (z : Discrete) (block number : ℕ) → T (lasting number (entryOf block number))
+    → readOf (tickOf d fault x y z .device) block number ≡ readOf d block number
 unfolding tickOf
-tick-keeps d fault x y =
-    states-still d (tickOf d fault x y .device .ain .state) (tickOf d fault x y .device .tot .state) (tickOf d fault x y .device .ao .state)
+tick-keeps d fault x y z = states-still d (tickOf d fault x y z .device)
 
 pub telegram-keeps : (d : Device) (input : ℕ) (bytes : List ℕ) (block number : ℕ) → T (lasting number (entryOf block number))
     → readOf (telegramOf d input bytes .device) block number ≡ readOf d block number
-unfolding telegramOf
-telegram-keeps d input bytes = states-still d (d .ain .state) (d .tot .state) (telegramOf d input bytes .device .ao .state)
+unfolding telegramOf aoTelegram doutTelegram
+telegram-keeps d input bytes block number t = go (ltb 1 input)
+  where
+    go : (p : Bool) → readOf (cond p (doutTelegram d input bytes) (aoTelegram d input bytes) .device) block number ≡ readOf d block number
+    go true = states-still d (doutTelegram d input bytes .device) block number t
+    go false = states-still d (aoTelegram d input bytes .device) block number t
 
 pub warm-start-keeps : (d : Device) (block number : ℕ) → T (lasting number (entryOf block number))
     → readOf (warmStarted d) block number ≡ readOf d block number
 unfolding warmStarted
-warm-start-keeps d = states-still d (warmStarted d .ain .state) (warmStarted d .tot .state) (warmStarted d .ao .state)
+warm-start-keeps d = states-still d (warmStarted d)
 
 -- ---- telegrams
 
 -- A refused telegram leaves the device as it was.
 pub refused-telegram : (d : Device) (input : ℕ) (bytes : List ℕ) (r : Refusal) → telegramOf d input bytes .answer ≡ Refused r
     → telegramOf d input bytes .device ≡ d
-unfolding telegramOf aoTelegram
-refused-telegram d input bytes r h =
-    ap (λ (x : AoState). withStates d (d .ain .state) (d .tot .state) x)
-    (refused-keeps (ltb 1 input) (takenOn (d .ao .state) input) (d .ao .state) (received (pairOf bytes)) r h)
+unfolding telegramOf aoTelegram doutTelegram takenByAo takenByDout
+refused-telegram d input bytes r = go (ltb 1 input)
+  where
+    go : (p : Bool) → cond p (doutTelegram d input bytes) (aoTelegram d input bytes) .answer ≡ Refused r
+        → cond p (doutTelegram d input bytes) (aoTelegram d input bytes) .device ≡ d
+    go true h =
+        ap (λ (x : DoutState). withStates d (d .ain .state) (d .tot .state) (d .ao .state) (d .di .state) x)
+        (refused-keeps (lacking input) (doutTakenOn (d .dout .state) input) (d .dout .state) (doutReceived (discreteOf bytes)) r h)
+    go false h =
+        ap (λ (x : AoState). withStates d (d .ain .state) (d .tot .state) x (d .di .state) (d .dout .state))
+        (refused-keeps (ltb 1 input) (takenOn (d .ao .state) input) (d .ao .state) (received (pairOf bytes)) r h)
 
 -- ---- accepted writes
 
@@ -126,7 +151,8 @@ taken-shown (Parameter class allowed) a b f g t = shown-back (words a b) f g all
 -- the parameter written
 stored-shown : (d : Device) (a b block number : ℕ) → T (storedEntry (entryOf block number))
     → readOf (storedIn d block number a b) block number ≡ Read (shownBy (entryOf block number) (words a b))
-unfolding readOf wordsOf ainWords totWords aoWords physical ain tot ao storedIn ainWritten totWritten aoWritten ainSettings totSettings aoSettings
+unfolding readOf wordsOf ainWords totWords aoWords diWords doutWords physical ain tot ao discrete di dout storedIn ainWritten totWritten aoWritten diWritten
+    doutWritten ainSettings totSettings aoSettings diSettings doutSettings
 stored-shown d a b =
     by-rows
     (λ number e. storedEntry e)
@@ -137,8 +163,10 @@ stored-shown d a b =
     (refl also refl also refl also refl also refl also refl also refl also refl also refl also refl also refl also refl also tt)
     (refl also refl also refl also refl also refl also tt)
     (refl also refl also refl also refl also refl also refl also refl also tt)
+    (refl also refl also refl also refl also tt)
+    (refl also refl also refl also refl also refl also tt)
 
--- OUT and TOTAL: no read
+-- OUT, OUT_D and TOTAL: no read
 abbrev unstored : ℕ → Entry → Bool
 unstored number NoBlock = false
 unstored number NoParameter = false
@@ -146,8 +174,8 @@ unstored number (Parameter class allowed) = not (readOnly class) && not (storedE
 
 outputs-still : (d : Device) (a b block′ number′ block number : ℕ) → T (unstored number (entryOf block number))
     → readOf (storedIn d block number a b) block′ number′ ≡ readOf d block′ number′
-unfolding readOf wordsOf ainWords totWords aoWords physical ain tot ao storedIn ainWritten totWritten aoWritten ainSettings totSettings aoSettings revAfter
-    isStatic entryOf entryIn operatedBy
+unfolding readOf wordsOf ainWords totWords aoWords diWords doutWords physical ain tot ao discrete di dout storedIn ainWritten totWritten aoWritten diWritten
+    doutWritten ainSettings totSettings aoSettings diSettings doutSettings revAfter isStatic entryOf entryIn operatedBy doutOperated
 outputs-still d a b block′ number′ =
     by-rows
     unstored
@@ -155,6 +183,8 @@ outputs-still d a b block′ number′ =
     (λ block number t. absurd t)
     (λ block number t. absurd t)
     tt
+    (refl also tt)
+    (refl also tt)
     (refl also tt)
     (refl also tt)
     (refl also tt)
@@ -194,6 +224,14 @@ module _ (number n : ℕ) (other : eqb number n ≡ false) where
     unfolding aoWords aoWritten aoSettings operatedBy
     ao-kept s r = simp (keep-rev (isStatic 3 number), keep code, keep float, keep ends)
 
+    di-kept : (s : DiBlock) → (eqb n 1 && isStatic 4 number) ≡ false → diWords (diWritten s number a b) n ≡ diWords s n
+    unfolding diWords diWritten diSettings
+    di-kept s r = simp (keep-rev (isStatic 4 number), keep code)
+
+    dout-kept : (s : DoutBlock) → (eqb n 1 && isStatic 5 number) ≡ false → doutWords (doutWritten s number a b) n ≡ doutWords s n
+    unfolding doutWords doutWritten doutSettings doutOperated
+    dout-kept s r = simp (keep-rev (isStatic 5 number), keep code)
+
     lock-kept : (d : Device) → T (storedEntry (entryOf 0 number)) → readOf (storedIn d 0 number a b) 0 n ≡ readOf d 0 n
     unfolding readOf wordsOf storedIn entryOf entryIn physical
     lock-kept d t = go (eqb number 18) refl (eqb n 18) refl t
@@ -206,7 +244,7 @@ module _ (number n : ℕ) (other : eqb number n ≡ false) where
 
     block-kept : (d : Device) (block : ℕ) → T (storedEntry (entryOf block number)) → (eqb n 1 && isStatic block number) ≡ false
         → readOf (storedIn d block number a b) block n ≡ readOf d block n
-    unfolding readOf wordsOf storedIn entryOf entryIn ain tot ao
+    unfolding readOf wordsOf storedIn entryOf entryIn ain tot ao di dout
     block-kept d =
         by-block
         (λ (block : ℕ). T (storedEntry (entryOf block number)) → (eqb n 1 && isStatic block number) ≡ false
@@ -215,6 +253,8 @@ module _ (number n : ℕ) (other : eqb number n ≡ false) where
         (λ t r. ap (λ (w : Words). readBy w (entryIn ain n)) (ain-kept (d .ain) r))
         (λ t r. ap (λ (w : Words). readBy w (entryIn tot n)) (tot-kept (d .tot) (unlike tot number 10 t refl) r))
         (λ t r. ap (λ (w : Words). readBy w (entryIn ao n)) (ao-kept (d .ao) r))
+        (λ t r. ap (λ (w : Words). readBy w (entryIn di n)) (di-kept (d .di) r))
+        (λ t r. ap (λ (w : Words). readBy w (entryIn dout n)) (dout-kept (d .dout) r))
         (λ block h t r. absurd (subst (λ (e : Entry). T (storedEntry e)) (no-block block number h) t))
 
 -- another block
@@ -223,6 +263,8 @@ unfolding readOf wordsOf storedIn entryOf
 other-kept d block number a b n =
     by-block
     (λ (block′ : ℕ). eqb block block′ ≡ false → readOf (storedIn d block number a b) block′ n ≡ readOf d block′ n)
+    (λ e. rw e)
+    (λ e. rw e)
     (λ e. rw e)
     (λ e. rw e)
     (λ e. rw e)
@@ -236,7 +278,8 @@ firstOf (Reading.Refused r) = 0
 
 stored-counts : (d : Device) (number a b rev block : ℕ) → 0 < block → T (takes (entryOf block number) a b) → readOf d block 1 ≡ Read (words rev 0)
     → readOf (storedIn d block number a b) block 1 ≡ Read (words (revAfter (isStatic block number) rev) 0)
-unfolding readOf wordsOf ainWords totWords aoWords entryOf entryIn ain tot ao storedIn ainWritten totWritten aoWritten
+unfolding readOf wordsOf ainWords totWords aoWords diWords doutWords entryOf entryIn ain tot ao discrete di dout storedIn ainWritten totWritten aoWritten
+    diWritten doutWritten
 stored-counts d number a b rev =
     by-block
     (λ (block : ℕ). 0 < block → T (takes (entryOf block number) a b) → readOf d block 1 ≡ Read (words rev 0)
@@ -245,6 +288,8 @@ stored-counts d number a b rev =
     (λ h t e. ap (λ (x : Reading). Read (words (revAfter (isStatic 1 number) (firstOf x)) 0)) e)
     (λ h t e. ap (λ (x : Reading). Read (words (revAfter (isStatic 2 number) (firstOf x)) 0)) e)
     (λ h t e. ap (λ (x : Reading). Read (words (revAfter (isStatic 3 number) (firstOf x)) 0)) e)
+    (λ h t e. ap (λ (x : Reading). Read (words (revAfter (isStatic 4 number) (firstOf x)) 0)) e)
+    (λ h t e. ap (λ (x : Reading). Read (words (revAfter (isStatic 5 number) (firstOf x)) 0)) e)
     (λ block h f t e. absurd (subst (λ (x : Entry). T (takes x a b)) (no-block block number h) t))
 
 unstored-by : (e : Entry) (number a b : ℕ) → T (takes e a b) → storedEntry e ≡ false → T (unstored number e)

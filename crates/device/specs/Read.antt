@@ -1,4 +1,4 @@
--- What reads give, document 01, Parameters and Refused calls. Assumes nothing.
+-- What reads give, document 01, Parameters and Refused calls, and document 02, request 3. Assumes nothing.
 use Prim.Native.Nat.{ℕ, _+_, _*_}
 use mathlib.Core.Bool.{Bool, true, false, cond}
 use lib.Dec.{eqb}
@@ -6,6 +6,7 @@ use lib.Ieee.{Float}
 use Rattle.numbers.specs.Floats.{bitsOf}
 use Rattle.scaling.specs.declared.Scale.{Scale}
 use Rattle.wire.specs.declared.Pair.{Pair}
+use Rattle.wire.specs.declared.Discrete.{Discrete}
 use Rattle.wire.specs.Refusal.{ground}
 use Rattle.ain.specs.declared.Alarms.{Alarms}
 use Rattle.parameters.specs.declared.Words.{Words}
@@ -15,9 +16,12 @@ use Rattle.parameters.specs.Table.{words, entryOf}
 use Rattle.device.specs.declared.AinBlock.{AinBlock}
 use Rattle.device.specs.declared.TotBlock.{TotBlock}
 use Rattle.device.specs.declared.AoBlock.{AoBlock}
+use Rattle.device.specs.declared.DiBlock.{DiBlock}
+use Rattle.device.specs.declared.DoutBlock.{DoutBlock}
 use Rattle.device.specs.declared.Device.{Device}
 use Rattle.device.specs.declared.Reading.{Reading}
 use Rattle.device.specs.declared.Reading.the-variants.{Read, Refused}
+use Rattle.device.specs.Stored.{Codes, diCodes, doutCodes}
 
 -- P7: a parameter of one word reads with 0 as the other
 abbrev pub code : ℕ → Words
@@ -32,6 +36,9 @@ ends s = words (bitsOf (s .low)) (bitsOf (s .high))
 -- P14b: an output reads as the pair last given
 abbrev pub given : Pair → Words
 given p = words (p .bits) (p .status)
+
+abbrev pub givenD : Discrete → Words
+givenD p = words (p .value) (p .status)
 
 abbrev pub bit : Bool → ℕ
 bit true = 1
@@ -85,11 +92,33 @@ aoWords b number =
     (cond (eqb number 37) (given (b .state .out))
     (cond (eqb number 38) (ends (b .settings .«out_scale»)) (words 0 0))))))))))
 
+-- Q3.2a: what DI and DO have alike: ST_REV, settings, mode and OUT_D; and what more a block has
+abbrev pub discreteWords : ℕ → Codes → ℕ → Discrete → ℕ → Words → Words
+discreteWords rev c mode out number more =
+    cond (eqb number 1) (code rev)
+    (cond (eqb number 5) (code (c .target))
+    (cond (eqb number 6) (code mode)
+    (cond (eqb number 10) (givenD out)
+    (cond (eqb number 15) (code (c .invert))
+    (cond (eqb number 20) (code (c .kind))
+    (cond (eqb number 21) (code (c .value)) more))))))
+
+unfoldable pub diWords : DiBlock → ℕ → Words
+diWords b number = discreteWords (b .«st_rev») (diCodes (b .settings)) (b .state .mode) (b .state .out) number (words 0 0)
+
+-- Q3.2b: FSAFE_TIME
+unfoldable pub doutWords : DoutBlock → ℕ → Words
+doutWords b number =
+    discreteWords (b .«st_rev») (doutCodes (b .settings)) (b .state .mode) (b .state .out) number
+    (cond (eqb number 22) (code (b .settings .«fsafe_time»)) (words 0 0))
+
 unfoldable pub wordsOf : Device → ℕ → ℕ → Words
 wordsOf d block number =
     cond (eqb block 0) (code (d .«write_locking»))
     (cond (eqb block 1) (ainWords (d .ain) number)
-    (cond (eqb block 2) (totWords (d .tot) number) (aoWords (d .ao) number)))
+    (cond (eqb block 2) (totWords (d .tot) number)
+    (cond (eqb block 3) (aoWords (d .ao) number)
+    (cond (eqb block 4) (diWords (d .di) number) (doutWords (d .dout) number)))))
 
 -- F2 to F4: a read is refused for its block, then for its parameter
 abbrev pub readBy : Words → Entry → Reading

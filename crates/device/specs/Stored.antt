@@ -1,4 +1,4 @@
--- What an accepted write stores, document 01, Parameters and History rules, and document 02, request 2: each field beside its parameter's number.
+-- What an accepted write stores, document 01, Parameters and History rules, and document 02, requests 2 and 3: each field beside its parameter's number.
 -- Assumes nothing.
 use Prim.Native.Nat.{ℕ, _+_, _%_}
 use mathlib.Core.Bool.{Bool, cond}
@@ -6,6 +6,7 @@ use lib.Dec.{eqb}
 use Rattle.numbers.specs.Floats.{floatOf}
 use Rattle.scaling.specs.declared.Scale.{Scale}
 use Rattle.wire.specs.declared.Pair.{Pair}
+use Rattle.wire.specs.declared.Discrete.{Discrete}
 use Rattle.blocks.specs.Common.{operatorAfter}
 use Rattle.ain.specs.declared.Settings.{Settings as AinSettings}
 use Rattle.ain.specs.State.{operatedState}
@@ -13,10 +14,16 @@ use Rattle.tot.specs.declared.Settings.{Settings as TotSettings}
 use Rattle.tot.specs.State.{writtenState}
 use Rattle.ao.specs.declared.Settings.{Settings as AoSettings}
 use Rattle.ao.specs.State.{operatedBy}
+use Rattle.di.specs.declared.Settings.{Settings as DiSettings}
+use Rattle.di.specs.State.{operatedState as diOperated}
+use Rattle.dout.specs.declared.Settings.{Settings as DoutSettings}
+use Rattle.dout.specs.State.{operatedBy as doutOperated}
 use Rattle.parameters.specs.Table.{isStatic}
 use Rattle.device.specs.declared.AinBlock.{AinBlock}
 use Rattle.device.specs.declared.TotBlock.{TotBlock}
 use Rattle.device.specs.declared.AoBlock.{AoBlock}
+use Rattle.device.specs.declared.DiBlock.{DiBlock}
+use Rattle.device.specs.declared.DoutBlock.{DoutBlock}
 use Rattle.device.specs.declared.Device.{Device}
 
 -- P8: words are stored as the floats whose bits they are, codes, ticks and a status as they are; a scale is two floats
@@ -26,6 +33,10 @@ scaleOf a b = record { low = floatOf a; high = floatOf b }
 -- P11b: an output's words are a value's bits and a status; a status that is accepted is a byte
 abbrev pub pairOf : ℕ → ℕ → Pair
 pairOf a b = record { bits = a; status = b % 256 }
+
+-- Q3.4: a discrete one's are a value and a status; a value that is accepted is 0 or 1
+abbrev pub pairOfD : ℕ → ℕ → Discrete
+pairOfD a b = record { value = a % 256; status = b % 256 }
 
 unfoldable pub ainSettings : AinSettings → ℕ → ℕ → ℕ → AinSettings
 ainSettings s number a b = record {
@@ -63,24 +74,58 @@ aoSettings s number a b = record {
   «increase_close» = cond (eqb number 36) a (s .«increase_close»);
 }
 
+-- Q3.2a: the settings that DI and DO have alike
+pub record Codes : Type 0 where
+  pub target : ℕ
+  pub invert : ℕ
+  pub kind : ℕ
+  pub value : ℕ
+
+abbrev pub diCodes : DiSettings → Codes
+diCodes s = record { target = s .target; invert = s .invert; kind = s .«fsafe_type»; value = s .«fsafe_val_d» }
+
+abbrev pub diFrom : Codes → DiSettings
+diFrom c = record { target = c .target; invert = c .invert; «fsafe_type» = c .kind; «fsafe_val_d» = c .value }
+
+abbrev pub doutCodes : DoutSettings → Codes
+doutCodes s = record { target = s .target; invert = s .invert; kind = s .«fsafe_type»; value = s .«fsafe_val_d» }
+
+-- Q3.2b: DO's with its FSAFE_TIME
+abbrev pub doutFrom : Codes → ℕ → DoutSettings
+doutFrom c time = record { target = c .target; invert = c .invert; «fsafe_type» = c .kind; «fsafe_val_d» = c .value; «fsafe_time» = time }
+
+abbrev pub codesAfter : Codes → ℕ → ℕ → Codes
+codesAfter c number a = record {
+  target = cond (eqb number 5) a (c .target);
+  invert = cond (eqb number 15) a (c .invert);
+  kind = cond (eqb number 20) a (c .kind);
+  value = cond (eqb number 21) a (c .value);
+}
+
+unfoldable pub diSettings : DiSettings → ℕ → ℕ → DiSettings
+diSettings s number a = diFrom (codesAfter (diCodes s) number a)
+
+unfoldable pub doutSettings : DoutSettings → ℕ → ℕ → DoutSettings
+doutSettings s number a = doutFrom (codesAfter (doutCodes s) number a) (cond (eqb number 22) a (s .«fsafe_time»))
+
 -- R11: ST_REV after an accepted write: a static one counts, whatever it changes, and 0 follows 65,535; said once for all blocks
 unfoldable pub revAfter : Bool → ℕ → ℕ
 revAfter counted rev = cond counted ((rev + 1) % 65536) rev
 
--- Q2.4, Q2.5: the operator's pair of AIN or AO after an accepted write of another parameter than OUT: one of the target makes it the pair last given where
--- it enters Man
-unfoldable pub enteredBy : ℕ → ℕ → ℕ → Pair → Pair → Pair
+-- Q2.4, Q2.5, Q3.8a: the operator's pair of an input or output block after an accepted write of another parameter than OUT or OUT_D: one of the target
+-- makes it the pair last given where it enters Man. Over any type A of pair
+unfoldable pub enteredBy : {A : Type 0} → ℕ → ℕ → ℕ → A → A → A
 enteredBy number a target given operator = cond (eqb number 5) (operatorAfter target a given operator) operator
 
--- P15: and after any: one of OUT, whose number goes before, brings it
-unfoldable pub operatorBy : ℕ → ℕ → ℕ → ℕ → ℕ → Pair → Pair → Pair
-operatorBy output number a b target given operator = cond (eqb number output) (pairOf a b) (enteredBy number a target given operator)
+-- P15: and after any: one of OUT or OUT_D, whose number goes before, brings it; `pair` makes it of two words
+unfoldable pub operatorBy : {A : Type 0} → (ℕ → ℕ → A) → ℕ → ℕ → ℕ → ℕ → ℕ → A → A → A
+operatorBy pair output number a b target given operator = cond (eqb number output) (pair a b) (enteredBy number a target given operator)
 
 -- P15: a block after an accepted write; one of TOTAL sets the total and keeps its status for Man
 unfoldable pub ainWritten : AinBlock → ℕ → ℕ → ℕ → AinBlock
 ainWritten block number a b = record {
   settings = ainSettings (block .settings) number a b;
-  state = operatedState (block .state) (operatorBy 10 number a b (block .settings .target) (block .state .out) (block .state .operator));
+  state = operatedState (block .state) (operatorBy pairOf 10 number a b (block .settings .target) (block .state .out) (block .state .operator));
   «st_rev» = revAfter (isStatic 1 number) (block .«st_rev»);
   table = block .table;
 }
@@ -95,15 +140,31 @@ totWritten block number a b = record {
 unfoldable pub aoWritten : AoBlock → ℕ → ℕ → ℕ → AoBlock
 aoWritten block number a b = record {
   settings = aoSettings (block .settings) number a b;
-  state = operatedBy (block .state) (operatorBy 37 number a b (block .settings .target) (block .state .out) (block .state .operator));
+  state = operatedBy (block .state) (operatorBy pairOf 37 number a b (block .settings .target) (block .state .out) (block .state .operator));
   «st_rev» = revAfter (isStatic 3 number) (block .«st_rev»);
 }
 
--- P1: the block written, by its number; block 0 has WRITE_LOCKING alone
+unfoldable pub diWritten : DiBlock → ℕ → ℕ → ℕ → DiBlock
+diWritten block number a b = record {
+  settings = diSettings (block .settings) number a;
+  state = diOperated (block .state) (operatorBy pairOfD 10 number a b (block .settings .target) (block .state .out) (block .state .operator));
+  «st_rev» = revAfter (isStatic 4 number) (block .«st_rev»);
+}
+
+unfoldable pub doutWritten : DoutBlock → ℕ → ℕ → ℕ → DoutBlock
+doutWritten block number a b = record {
+  settings = doutSettings (block .settings) number a;
+  state = doutOperated (block .state) (operatorBy pairOfD 10 number a b (block .settings .target) (block .state .out) (block .state .operator));
+  «st_rev» = revAfter (isStatic 5 number) (block .«st_rev»);
+}
+
+-- P1, Q3.2a: the block written, by its number; block 0 has WRITE_LOCKING alone
 unfoldable pub storedIn : Device → ℕ → ℕ → ℕ → ℕ → Device
 storedIn d block number a b = record {
   «write_locking» = cond (eqb block 0) a (d .«write_locking»);
   ain = cond (eqb block 1) (ainWritten (d .ain) number a b) (d .ain);
   tot = cond (eqb block 2) (totWritten (d .tot) number a b) (d .tot);
   ao = cond (eqb block 3) (aoWritten (d .ao) number a b) (d .ao);
+  di = cond (eqb block 4) (diWritten (d .di) number a b) (d .di);
+  dout = cond (eqb block 5) (doutWritten (d .dout) number a b) (d .dout);
 }

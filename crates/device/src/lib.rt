@@ -1,14 +1,14 @@
-// The device: the three function blocks and write protection on one value that C can hold, and the calls on it
-// (document 01, Calls on the device; document 02, requests 1 and 2).
+// The device: the five function blocks and write protection on one value that C can hold, and the calls on it
+// (document 01, Calls on the device; document 02, requests 1 to 3).
 ghost use mathlib.Core.Path.{_≡_};
 ghost use Prim.Native.Nat.{_%_, _≤_};
 ghost use denote.Ref.{ptr};
 ghost use Rattle.wire.specs.Image.{imageAnswer, imageBytes, partOf, partPlace};
 ghost use Rattle.parameters.specs.Table.{defaultOf};
-ghost use Rattle.device.specs.Factory.{ainBy, totBy, aoBy, factoryDevice};
-ghost use Rattle.device.specs.Stored.{ainSettings, totSettings, aoSettings, revAfter, pairOf, enteredBy, ainWritten, totWritten, aoWritten, storedIn};
-ghost use Rattle.device.specs.Read.{code, float, ends, given, alarmByte, ainWords, totWords, aoWords, wordsOf, readOf};
-ghost use Rattle.device.specs.Calls.{standingOf, writeOf, tickOf, telegramOf, tabledBy, loadOf, warmStarted};
+ghost use Rattle.device.specs.Factory.{ainBy, totBy, aoBy, diBy, doutBy, factoryDevice};
+ghost use Rattle.device.specs.Stored.{ainSettings, totSettings, aoSettings, diSettings, doutSettings, revAfter, pairOf, pairOfD, enteredBy, ainWritten, totWritten, aoWritten, diWritten, doutWritten, storedIn};
+ghost use Rattle.device.specs.Read.{code, float, ends, given, givenD, alarmByte, ainWords, totWords, aoWords, diWords, doutWords, wordsOf, readOf};
+ghost use Rattle.device.specs.Calls.{standingOf, writeOf, tickOf, aoTelegram, doutTelegram, telegramOf, tabledBy, loadOf, warmStarted};
 use ain::Alarms;
 use ao::Order;
 use linearisation::Table;
@@ -19,6 +19,7 @@ use parameters::Standing;
 use parameters::Words;
 use scaling::Scale;
 use wire::Answer;
+use wire::Discrete;
 use wire::Pair;
 use wire::Refusal;
 
@@ -45,11 +46,27 @@ pub struct AoBlock {
 }
 
 #[repr(C)]
+pub struct DiBlock {
+    pub settings: di::Settings,
+    pub state: di::State,
+    pub st_rev: u16,
+}
+
+#[repr(C)]
+pub struct DoutBlock {
+    pub settings: dout::Settings,
+    pub state: dout::State,
+    pub st_rev: u16,
+}
+
+#[repr(C)]
 pub struct Device {
     pub write_locking: u32,
     pub ain: AinBlock,
     pub tot: TotBlock,
     pub ao: AoBlock,
+    pub di: DiBlock,
+    pub dout: DoutBlock,
 }
 
 // The device after a call, and what the call is answered.
@@ -58,10 +75,11 @@ pub struct Answered {
     pub answer: Answer,
 }
 
-// The device after a tick, and AO's drive order.
+// The device after a tick, and the drive orders of AO and of DO.
 pub struct Ticked {
     pub device: Device,
     pub order: Order,
+    pub order_d: dout::Order,
 }
 
 // What a read is answered.
@@ -125,15 +143,42 @@ fn default_ao() -> ao::Settings
     }
 }
 
+fn default_di() -> di::Settings
+    ensures { λ r. ⌜ r ≡ diBy defaultOf ⌝ }
+{
+    di::Settings {
+        target: blocks::AUTO,
+        invert: 0,
+        fsafe_type: 0,
+        fsafe_val_d: 0,
+    }
+}
+
+fn default_dout() -> dout::Settings
+    ensures { λ r. ⌜ r ≡ doutBy defaultOf ⌝ }
+{
+    dout::Settings {
+        target: blocks::AUTO,
+        invert: 0,
+        fsafe_type: 0,
+        fsafe_val_d: 0,
+        fsafe_time: 0,
+    }
+}
+
 pub fn factory() -> Device
     ensures { λ r. ⌜ r ≡ factoryDevice ⌝ }
 {
     let ain_settings = default_ain();
     let tot_settings = default_tot();
     let ao_settings = default_ao();
+    let di_settings = default_di();
+    let dout_settings = default_dout();
     let ain_state = ain::fresh();
     let tot_state = tot::fresh();
     let ao_state = ao::fresh();
+    let di_state = di::fresh();
+    let dout_state = dout::fresh();
     let no_table = linearisation::none();
     Device {
         write_locking: 2457,
@@ -151,6 +196,16 @@ pub fn factory() -> Device
         ao: AoBlock {
             settings: ao_settings,
             state: ao_state,
+            st_rev: 0,
+        },
+        di: DiBlock {
+            settings: di_settings,
+            state: di_state,
+            st_rev: 0,
+        },
+        dout: DoutBlock {
+            settings: dout_settings,
+            state: dout_state,
             st_rev: 0,
         },
     }
@@ -219,6 +274,35 @@ fn ao_settings(s: ao::Settings, parameter: u8, a: u32, b: u32) -> ao::Settings
     next
 }
 
+fn di_settings(s: di::Settings, parameter: u8, a: u32) -> di::Settings
+    ensures { λ r. ⌜ r ≡ diSettings s parameter a ⌝ }
+{
+    let mut next = s;
+    match parameter {
+        5 => next.target = a,
+        15 => next.invert = a,
+        20 => next.fsafe_type = a,
+        21 => next.fsafe_val_d = a,
+        _ => {}
+    }
+    next
+}
+
+fn dout_settings(s: dout::Settings, parameter: u8, a: u32) -> dout::Settings
+    ensures { λ r. ⌜ r ≡ doutSettings s parameter a ⌝ }
+{
+    let mut next = s;
+    match parameter {
+        5 => next.target = a,
+        15 => next.invert = a,
+        20 => next.fsafe_type = a,
+        21 => next.fsafe_val_d = a,
+        22 => next.fsafe_time = a,
+        _ => {}
+    }
+    next
+}
+
 fn rev_after(counted: bool, rev: u16) -> u16
     ensures { λ r. ⌜ r ≡ revAfter counted rev ⌝ }
 {
@@ -228,7 +312,7 @@ fn rev_after(counted: bool, rev: u16) -> u16
     rev
 }
 
-fn status_of(b: u32) -> u8
+fn byte_of(b: u32) -> u8
     ensures { λ r. ⌜ r ≡ b % 256 ⌝ }
 {
     (b % 256) as u8
@@ -244,12 +328,33 @@ fn entered(parameter: u8, a: u32, target: u32, given: Pair, operator: Pair) -> P
     }
 }
 
+// The same of DI or DO, and OUT_D.
+fn entered_d(parameter: u8, a: u32, target: u32, given: Discrete, operator: Discrete) -> Discrete
+    ensures { λ r. ⌜ r ≡ enteredBy parameter a target given operator ⌝ }
+{
+    match parameter {
+        5 => blocks::operator_after_d(target, a, given, operator),
+        _ => operator,
+    }
+}
+
 fn pair_of(a: u32, b: u32) -> Pair
     ensures { λ r. ⌜ r ≡ pairOf a b ⌝ }
 {
-    let status = status_of(b);
+    let status = byte_of(b);
     Pair {
         bits: a,
+        status: status,
+    }
+}
+
+fn pair_of_d(a: u32, b: u32) -> Discrete
+    ensures { λ r. ⌜ r ≡ pairOfD a b ⌝ }
+{
+    let value = byte_of(a);
+    let status = byte_of(b);
+    Discrete {
+        value: value,
         status: status,
     }
 }
@@ -282,7 +387,7 @@ fn tot_written(block: TotBlock, parameter: u8, a: u32, b: u32) -> TotBlock
     let counted = parameters::counts(2, parameter);
     let rev = rev_after(counted, block.st_rev);
     let settings = tot_settings(block.settings, parameter, a);
-    let status = status_of(b);
+    let status = byte_of(b);
     let old = block.state;
     let written = tot::written(old, a, status);
     match parameter {
@@ -321,6 +426,50 @@ fn ao_written(block: AoBlock, parameter: u8, a: u32, b: u32) -> AoBlock
     next
 }
 
+fn di_written(block: DiBlock, parameter: u8, a: u32, b: u32) -> DiBlock
+    ensures { λ r. ⌜ r ≡ diWritten block parameter a b ⌝ }
+{
+    let counted = parameters::counts(4, parameter);
+    let rev = rev_after(counted, block.st_rev);
+    let settings = di_settings(block.settings, parameter, a);
+    let old = block.state;
+    let written = pair_of_d(a, b);
+    let taken = entered_d(parameter, a, block.settings.target, old.out, old.operator);
+    let with_written = di::operated(old, written);
+    let with_taken = di::operated(old, taken);
+    let mut next = block;
+    next.settings = settings;
+    next.state = with_taken;
+    next.st_rev = rev;
+    match parameter {
+        10 => next.state = with_written,
+        _ => {}
+    }
+    next
+}
+
+fn dout_written(block: DoutBlock, parameter: u8, a: u32, b: u32) -> DoutBlock
+    ensures { λ r. ⌜ r ≡ doutWritten block parameter a b ⌝ }
+{
+    let counted = parameters::counts(5, parameter);
+    let rev = rev_after(counted, block.st_rev);
+    let settings = dout_settings(block.settings, parameter, a);
+    let old = block.state;
+    let written = pair_of_d(a, b);
+    let taken = entered_d(parameter, a, block.settings.target, old.out, old.operator);
+    let with_written = dout::operated(old, written);
+    let with_taken = dout::operated(old, taken);
+    let mut next = block;
+    next.settings = settings;
+    next.state = with_taken;
+    next.st_rev = rev;
+    match parameter {
+        10 => next.state = with_written,
+        _ => {}
+    }
+    next
+}
+
 fn stored(d: Device, block: u8, parameter: u8, a: u32, b: u32) -> Device
     ensures { λ r. ⌜ r ≡ storedIn d block parameter a b ⌝ }
 {
@@ -339,6 +488,14 @@ fn stored(d: Device, block: u8, parameter: u8, a: u32, b: u32) -> Device
             let ao = ao_written(d.ao, parameter, a, b);
             next.ao = ao;
         }
+        4 => {
+            let di = di_written(d.di, parameter, a, b);
+            next.di = di;
+        }
+        5 => {
+            let dout = dout_written(d.dout, parameter, a, b);
+            next.dout = dout;
+        }
         _ => {}
     }
     next
@@ -353,6 +510,8 @@ fn standing(d: Device) -> Standing
         ain: d.ain.settings.target,
         tot: d.tot.settings.target,
         ao: d.ao.settings.target,
+        di: d.di.settings.target,
+        dout: d.dout.settings.target,
         table: table,
     }
 }
@@ -411,6 +570,15 @@ fn pair_words(pair: Pair) -> Words
 {
     Words {
         first: pair.bits,
+        second: pair.status as u32,
+    }
+}
+
+fn pair_words_d(pair: Discrete) -> Words
+    ensures { λ r. ⌜ r ≡ givenD pair ⌝ }
+{
+    Words {
+        first: pair.value as u32,
         second: pair.status as u32,
     }
 }
@@ -493,6 +661,37 @@ fn ao_words(b: AoBlock, parameter: u8) -> Words
     }
 }
 
+fn di_words(b: DiBlock, parameter: u8) -> Words
+    ensures { λ r. ⌜ r ≡ diWords b parameter ⌝ }
+{
+    match parameter {
+        1 => code_words(b.st_rev as u32),
+        5 => code_words(b.settings.target),
+        6 => code_words(b.state.mode),
+        10 => pair_words_d(b.state.out),
+        15 => code_words(b.settings.invert),
+        20 => code_words(b.settings.fsafe_type),
+        21 => code_words(b.settings.fsafe_val_d),
+        _ => code_words(0),
+    }
+}
+
+fn dout_words(b: DoutBlock, parameter: u8) -> Words
+    ensures { λ r. ⌜ r ≡ doutWords b parameter ⌝ }
+{
+    match parameter {
+        1 => code_words(b.st_rev as u32),
+        5 => code_words(b.settings.target),
+        6 => code_words(b.state.mode),
+        10 => pair_words_d(b.state.out),
+        15 => code_words(b.settings.invert),
+        20 => code_words(b.settings.fsafe_type),
+        21 => code_words(b.settings.fsafe_val_d),
+        22 => code_words(b.settings.fsafe_time),
+        _ => code_words(0),
+    }
+}
+
 fn words_of(d: Device, block: u8, parameter: u8) -> Words
     ensures { λ r. ⌜ r ≡ wordsOf d block parameter ⌝ }
 {
@@ -500,7 +699,9 @@ fn words_of(d: Device, block: u8, parameter: u8) -> Words
         0 => code_words(d.write_locking),
         1 => ain_words(d.ain, parameter),
         2 => tot_words(d.tot, parameter),
-        _ => ao_words(d.ao, parameter),
+        3 => ao_words(d.ao, parameter),
+        4 => di_words(d.di, parameter),
+        _ => dout_words(d.dout, parameter),
     }
 }
 
@@ -520,8 +721,8 @@ pub fn read(d: Device, block: u8, parameter: u8) -> Reading
 
 // ---- tick, telegram, load, warm start
 
-pub fn tick(d: Device, fault: bool, ain: Pair, tot: Pair) -> Ticked
-    ensures { λ r. ⌜ r ≡ tickOf d fault ain tot ⌝ }
+pub fn tick(d: Device, fault: bool, ain: Pair, tot: Pair, di: Discrete) -> Ticked
+    ensures { λ r. ⌜ r ≡ tickOf d fault ain tot di ⌝ }
 {
     let ain_state = ain::tick(
         d.ain.settings,
@@ -535,24 +736,35 @@ pub fn tick(d: Device, fault: bool, ain: Pair, tot: Pair) -> Ticked
     let ao_ticked = ao::tick(d.ao.settings, d.ao.state, fault);
     let ao_state = ao_ticked.state;
     let order = ao_ticked.order;
+    let di_state = di::tick(d.di.settings, d.di.state, fault, di.value, di.status);
+    let dout_ticked = dout::tick(d.dout.settings, d.dout.state, fault);
+    let dout_state = dout_ticked.state;
+    let order_d = dout_ticked.order;
     let mut ain_next = d.ain;
     let mut tot_next = d.tot;
     let mut ao_next = d.ao;
+    let mut di_next = d.di;
+    let mut dout_next = d.dout;
     ain_next.state = ain_state;
     tot_next.state = tot_state;
     ao_next.state = ao_state;
+    di_next.state = di_state;
+    dout_next.state = dout_state;
     let mut next = d;
     next.ain = ain_next;
     next.tot = tot_next;
     next.ao = ao_next;
+    next.di = di_next;
+    next.dout = dout_next;
     Ticked {
         device: next,
         order: order,
+        order_d: order_d,
     }
 }
 
-pub fn telegram(d: Device, input: u8, bytes: &[u8]) -> Answered
-    ensures { λ r. ⌜ r ≡ telegramOf d input (now (bytes .entry)) ⌝ }
+fn ao_telegram(d: Device, input: u8, bytes: &[u8]) -> Answered
+    ensures { λ r. ⌜ r ≡ aoTelegram d input (now (bytes .entry)) ⌝ }
 {
     let taken = ao::telegram(d.ao.state, input, bytes);
     let received = taken.state;
@@ -565,6 +777,33 @@ pub fn telegram(d: Device, input: u8, bytes: &[u8]) -> Answered
         device: next,
         answer: answer,
     }
+}
+
+fn dout_telegram(d: Device, input: u8, bytes: &[u8]) -> Answered
+    ensures { λ r. ⌜ r ≡ doutTelegram d input (now (bytes .entry)) ⌝ }
+{
+    let taken = dout::telegram(d.dout.state, input, bytes);
+    let received = taken.state;
+    let answer = taken.answer;
+    let mut dout_next = d.dout;
+    dout_next.state = received;
+    let mut next = d;
+    next.dout = dout_next;
+    Answered {
+        device: next,
+        answer: answer,
+    }
+}
+
+// Inputs 0 and 1 are AO's. DO has 2 and 3, and refuses all others.
+pub fn telegram(d: Device, input: u8, bytes: &[u8]) -> Answered
+    ensures { λ r. ⌜ r ≡ telegramOf d input (now (bytes .entry)) ⌝ }
+{
+    let discrete = input > 1;
+    if discrete {
+        return dout_telegram(d, input, bytes);
+    }
+    ao_telegram(d, input, bytes)
 }
 
 // AIN with another table: one static write more.
@@ -619,16 +858,24 @@ pub fn warm_start(d: Device) -> Device
     let ain_started = ain::warm_start(d.ain.state);
     let tot_started = tot::warm_start(d.tot.state);
     let ao_started = ao::warm_start(d.ao.state);
+    let di_started = di::warm_start(d.di.state);
+    let dout_started = dout::warm_start(d.dout.state);
     let mut ain_next = d.ain;
     let mut tot_next = d.tot;
     let mut ao_next = d.ao;
+    let mut di_next = d.di;
+    let mut dout_next = d.dout;
     ain_next.state = ain_started;
     tot_next.state = tot_started;
     ao_next.state = ao_started;
+    di_next.state = di_started;
+    dout_next.state = dout_started;
     let mut next = d;
     next.ain = ain_next;
     next.tot = tot_next;
     next.ao = ao_next;
+    next.di = di_next;
+    next.dout = dout_next;
     next
 }
 
@@ -637,12 +884,19 @@ pub fn warm_start(d: Device) -> Device
 // The blocks' values and statuses as last given, into the front of a buffer.
 pub fn image(d: Device, buf: &mut [u8]) -> Answer
     ensures { λ r. ⌜ r ≡ imageAnswer (now (buf .entry)) ⌝ }
-    ensures { λ _. ⌜ now (buf .exit) ≡ imageBytes (now (buf .entry)) (d .ain .state .out) (d .tot .state .out) (d .ao .state .out) ⌝ }
+    ensures { λ _. ⌜ now (buf .exit) ≡ imageBytes (now (buf .entry)) (d .ain .state .out) (d .tot .state .out) (d .ao .state .out) (d .di .state .out) (d .dout .state .out) ⌝ }
 {
-    wire::image(buf, d.ain.state.out, d.tot.state.out, d.ao.state.out)
+    wire::image(
+        buf,
+        d.ain.state.out,
+        d.tot.state.out,
+        d.ao.state.out,
+        d.di.state.out,
+        d.dout.state.out,
+    )
 }
 
-// One block's five bytes of an image, lent out of the buffer itself.
+// One block's bytes of an image, lent out of the buffer itself.
 pub fn part(buf: &[u8], block: u8) -> &[u8]
     ensures { λ r. ⌜ now r ≡ partOf (now (buf .entry)) block ⌝ }
     ensures { λ r. ⌜ ptr r ≡ partPlace (ptr (buf .entry)) (now (buf .entry)) block ⌝ }

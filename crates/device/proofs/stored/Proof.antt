@@ -24,7 +24,15 @@ returns-4 c = rw (c .ao-written .ensures, c .before .match .keys4)
 
 returns-5 : tie.Need-returns-5
 unfolding storedIn
-returns-5 c = rw (ne-eqb _ 0 (c .match .rest .0 .0 .0 .1), ne-eqb _ 1 (c .match .rest .0 .0 .1), ne-eqb _ 2 (c .match .rest .0 .1), ne-eqb _ 3 (c .match .rest .1))
+returns-5 c = rw (c .di-written .ensures, c .before .match .keys5)
+
+returns-6 : tie.Need-returns-6
+unfolding storedIn
+returns-6 c = rw (c .dout-written .ensures, c .before .match .keys6)
+
+returns-7 : tie.Need-returns-7
+unfolding storedIn
+returns-7 c = rw (ne-eqb _ 0 (c .match .rest .0 .0 .0 .0 .0 .1), ne-eqb _ 1 (c .match .rest .0 .0 .0 .0 .1), ne-eqb _ 2 (c .match .rest .0 .0 .0 .1), ne-eqb _ 3 (c .match .rest .0 .0 .1), ne-eqb _ 4 (c .match .rest .0 .1), ne-eqb _ 5 (c .match .rest .1))
 
 pub stored-spec : {M : Type 1} → statement M
 stored-spec =
@@ -33,8 +41,12 @@ stored-spec =
     (λ c κs. search needs)
     (λ c κs. search needs)
     (λ c κs. search needs)
+    (λ c κs. search needs)
+    (λ c κs. search needs)
     returns
     returns-2
     returns-3
     returns-4
-    returns-5)
+    returns-5
+    returns-6
+    returns-7)

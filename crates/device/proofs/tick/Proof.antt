@@ -7,7 +7,15 @@ use Rattle.device.proofs.tick.Tie as tie
 
 returns : tie.Need-returns
 unfolding tickOf
-returns c = rw (c .before .before .before .before .tick3 .ensures, c .before .before .before .before .before .tick2 .ensures, c .before .before .before .before .before .before .tick .ensures)
+returns c = rw (c .before .before .before .before .before .before .tick5 .ensures, c .before .before .before .before .before .before .before .tick4 .ensures, c .before .before .before .before .before .before .before .before .before .tick3 .ensures, c .before .before .before .before .before .before .before .before .before .before .tick2 .ensures, c .before .before .before .before .before .before .before .before .before .before .before .tick .ensures)
 
 pub tick-spec : {M : Type 1} → statement M
-tick-spec = tie.close (tie.spec (λ c κs. search needs) (λ c κs. search needs) (λ c κs. search needs) returns)
+tick-spec =
+    tie.close
+    (tie.spec
+    (λ c κs. search needs)
+    (λ c κs. search needs)
+    (λ c κs. search needs)
+    (λ c κs. search needs)
+    (λ c κs. search needs)
+    returns)

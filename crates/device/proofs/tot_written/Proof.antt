@@ -8,7 +8,7 @@ use Rattle.device.proofs.tot_written.Tie as tie
 
 returns : tie.Need-returns
 unfolding totWritten
-returns c = rw (c .before .written .ensures, c .before .before .before .status-of .ensures, c .before .before .before .before .tot-settings .ensures, c .before .before .before .before .before .rev-after .ensures, c .before .before .before .before .before .before .counts .ensures, c .match .keys1)
+returns c = rw (c .before .written .ensures, c .before .before .before .byte-of .ensures, c .before .before .before .before .tot-settings .ensures, c .before .before .before .before .before .rev-after .ensures, c .before .before .before .before .before .before .counts .ensures, c .match .keys1)
 
 returns-2 : tie.Need-returns-2
 unfolding totWritten

@@ -7,8 +7,15 @@ use Rattle.device.proofs.warm_start.Tie as tie
 
 returns : tie.Need-returns
 unfolding warmStarted
-returns c = rw (c .before .before .before .warm-start3 .ensures, c .before .before .before .before .warm-start2 .ensures, c .before .before .before .before .before .warm-start .ensures)
+returns c = rw (c .before .before .before .before .before .warm-start5 .ensures, c .before .before .before .before .before .before .warm-start4 .ensures, c .before .before .before .before .before .before .before .warm-start3 .ensures, c .before .before .before .before .before .before .before .before .warm-start2 .ensures, c .before .before .before .before .before .before .before .before .before .warm-start .ensures)
 
 pub warm-start-spec : {M : Type 1} → statement M
 warm-start-spec =
-    tie.close (tie.spec (λ c κs. search needs) (λ c κs. search needs) (λ c κs. search needs) returns)
+    tie.close
+    (tie.spec
+    (λ c κs. search needs)
+    (λ c κs. search needs)
+    (λ c κs. search needs)
+    (λ c κs. search needs)
+    (λ c κs. search needs)
+    returns)

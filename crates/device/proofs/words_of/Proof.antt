@@ -20,7 +20,15 @@ returns-3 c = rw (c .tot-words .ensures, c .before .match .keys3)
 
 returns-4 : tie.Need-returns-4
 unfolding wordsOf
-returns-4 c = rw (c .ao-words .ensures, ne-eqb _ 0 (c .before .match .rest .0 .0 .1), ne-eqb _ 1 (c .before .match .rest .0 .1), ne-eqb _ 2 (c .before .match .rest .1))
+returns-4 c = rw (c .ao-words .ensures, c .before .match .keys4)
+
+returns-5 : tie.Need-returns-5
+unfolding wordsOf
+returns-5 c = rw (c .di-words .ensures, c .before .match .keys5)
+
+returns-6 : tie.Need-returns-6
+unfolding wordsOf
+returns-6 c = rw (c .dout-words .ensures, ne-eqb _ 0 (c .before .match .rest .0 .0 .0 .0 .1), ne-eqb _ 1 (c .before .match .rest .0 .0 .0 .1), ne-eqb _ 2 (c .before .match .rest .0 .0 .1), ne-eqb _ 3 (c .before .match .rest .0 .1), ne-eqb _ 4 (c .before .match .rest .1))
 
 pub words-of-spec : {M : Type 1} → statement M
 words-of-spec =
@@ -30,7 +38,11 @@ words-of-spec =
     (λ c κs. search needs)
     (λ c κs. search needs)
     (λ c κs. search needs)
+    (λ c κs. search needs)
+    (λ c κs. search needs)
     returns
     returns-2
     returns-3
-    returns-4)
+    returns-4
+    returns-5
+    returns-6)
