@@ -1,5 +1,5 @@
--- Laws of calls and reads, document 01, Parameters and Refused calls, and document 02, request 3: what an accepted write, a refused call, a tick, a telegram and a warm start
--- do to what reads give. They hold of every device. Assumes nothing.
+-- Laws of calls and reads, document 01, Parameters and Refused calls, and document 02, request 3: what an accepted write, a refused call, a tick, a
+-- telegram and a warm start do to what reads give. They hold of every device. Assumes nothing.
 use Prim.Native.Nat.{ℕ, _<_, _^_}
 use mathlib.Core.Path.{_≡_, refl, sym, ap, _∙_, subst}
 use mathlib.Core.Bool.{Bool, true, false, not, _&&_, _||_, cond}

@@ -157,11 +157,12 @@ fn default_di() -> di::Settings
 fn default_dout() -> dout::Settings
     ensures { λ r. ⌜ r ≡ doutBy defaultOf ⌝ }
 {
+    let alike = default_di();
     dout::Settings {
-        target: blocks::AUTO,
-        invert: 0,
-        fsafe_type: 0,
-        fsafe_val_d: 0,
+        target: alike.target,
+        invert: alike.invert,
+        fsafe_type: alike.fsafe_type,
+        fsafe_val_d: alike.fsafe_val_d,
         fsafe_time: 0,
     }
 }
@@ -783,10 +784,10 @@ fn dout_telegram(d: Device, input: u8, bytes: &[u8]) -> Answered
     ensures { λ r. ⌜ r ≡ doutTelegram d input (now (bytes .entry)) ⌝ }
 {
     let taken = dout::telegram(d.dout.state, input, bytes);
-    let received = taken.state;
+    let received_d = taken.state;
     let answer = taken.answer;
     let mut dout_next = d.dout;
-    dout_next.state = received;
+    dout_next.state = received_d;
     let mut next = d;
     next.dout = dout_next;
     Answered {
