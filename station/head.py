@@ -55,14 +55,15 @@ REFUSALS = {
 OUT_READ = b"read %d %d" % (AIN, PARAMETERS["OUT"][0])
 ALARMS_READ = b"read %d %d" % (AIN, PARAMETERS["ALARMS"][0])
 LINES = 3  # of each tick: the tick and two reads
-ORDER = re.compile(rb"(?:position 0x[0-9A-F]{8}|safe|rest)\n")
+ORDERS = re.compile(rb"(?:position 0x[0-9A-F]{8}|safe|rest) (?:position [01]|safe|rest)\n")  # AO's, then DO's
 OUTS = re.compile(rb"(?:words 0x[0-9A-F]{8} 0x000000[0-9A-F]{2}\n)*")
 ALARMS = re.compile(rb"words 0x0000000([0-9A-F]) 0x00000000\n")
 
 
-def tick_line(value, status, rate=0.0, rate_status=GOOD):
-    """A tick with what AIN and TOT are fed, NaN being no value."""
-    return b"tick 0 0x%08X 0x%02X 0x%08X 0x%02X" % (fed_bits(value), status & 0xFF, fed_bits(rate), rate_status & 0xFF)
+def tick_line(value, status, rate=0.0, rate_status=GOOD, contact=0, contact_status=GOOD, fault=0):
+    """A tick with what AIN, TOT and DI are fed, NaN being no value."""
+    return b"tick %d 0x%08X 0x%02X 0x%08X 0x%02X %d 0x%02X" % (fault, fed_bits(value), status & 0xFF, fed_bits(rate), rate_status & 0xFF, contact,
+        contact_status & 0xFF)
 
 
 def telegram_line(input_, value, status=GOOD):
@@ -75,7 +76,7 @@ def fed_bits(value):
 
 
 def tick_lines(value, status):
-    """The lines of one tick: OUT and the alarms are read after every one. TOT gets no flow, and nothing of it is looked at."""
+    """The lines of one tick: OUT and the alarms are read after every one. TOT gets no flow and DI the value 0, and nothing of them is looked at."""
     return b"%s\n%s\n%s\n" % (tick_line(value, status), OUT_READ, ALARMS_READ)
 
 
@@ -239,7 +240,7 @@ class Head:
         lines = list(itertools.islice(self.process.stdout, LINES * count))
         self.answers += len(lines)
         orders, outs, alarms = lines[::LINES], lines[1::LINES], lines[2::LINES]
-        for answers, form, call in ((orders, ORDER, b"tick"), (alarms, ALARMS, ALARMS_READ)):
+        for answers, form, call in ((orders, ORDERS, b"tick"), (alarms, ALARMS, ALARMS_READ)):
             for answer in set(answers):
                 if not form.fullmatch(answer):
                     raise self.wrong(answers, answer, form, call)

@@ -154,7 +154,8 @@ taken-shown (Parameter class allowed) a b f g t = shown-back (words a b) f g all
 -- the parameter written
 stored-shown : (d : Device) (a b block number : ℕ) → T (storedEntry (entryOf block number))
     → readOf (storedIn d block number a b) block number ≡ Read (shownBy (entryOf block number) (words a b))
-unfolding readOf wordsOf ainWords totWords aoWords diWords doutWords discreteWords physical ain tot ao di dout discrete storedIn ainWritten totWritten aoWritten diWritten doutWritten ainSettings totSettings aoSettings diSettings doutSettings
+unfolding readOf wordsOf ainWords totWords aoWords diWords doutWords discreteWords physical ain tot ao di dout discrete storedIn
+    ainWritten totWritten aoWritten diWritten doutWritten ainSettings totSettings aoSettings diSettings doutSettings
 stored-shown d a b =
     by-rows
     (λ number e. storedEntry e)
@@ -176,7 +177,8 @@ unstored number (Parameter class allowed) = not (readOnly class) && not (storedE
 
 outputs-still : (d : Device) (a b block′ number′ block number : ℕ) → T (unstored number (entryOf block number))
     → readOf (storedIn d block number a b) block′ number′ ≡ readOf d block′ number′
-unfolding readOf wordsOf ainWords totWords aoWords diWords doutWords discreteWords physical ain tot ao di dout discrete storedIn ainWritten totWritten aoWritten diWritten doutWritten ainSettings totSettings aoSettings diSettings doutSettings revAfter
+unfolding readOf wordsOf ainWords totWords aoWords diWords doutWords discreteWords physical ain tot ao di dout discrete storedIn
+    ainWritten totWritten aoWritten diWritten doutWritten ainSettings totSettings aoSettings diSettings doutSettings revAfter
     isStatic entryOf entryIn operatedBy operatedDout
 outputs-still d a b block′ number′ =
     by-rows

@@ -292,16 +292,16 @@ fn di_settings(s: di::Settings, parameter: u8, a: u32) -> di::Settings
 fn dout_settings(s: dout::Settings, parameter: u8, a: u32) -> dout::Settings
     ensures { λ r. ⌜ r ≡ doutSettings s parameter a ⌝ }
 {
-    let mut next = s;
+    let mut after = s;
     match parameter {
-        5 => next.target = a,
-        15 => next.invert = a,
-        20 => next.fsafe_type = a,
-        21 => next.fsafe_val_d = a,
-        22 => next.fsafe_time = a,
+        5 => after.target = a,
+        15 => after.invert = a,
+        20 => after.fsafe_type = a,
+        21 => after.fsafe_val_d = a,
+        22 => after.fsafe_time = a,
         _ => {}
     }
-    next
+    after
 }
 
 fn rev_after(counted: bool, rev: u16) -> u16
@@ -330,12 +330,12 @@ fn entered(parameter: u8, a: u32, target: u32, given: Pair, operator: Pair) -> P
 }
 
 // The same of DI or DO.
-fn entered_d(parameter: u8, a: u32, target: u32, out: Discrete, operator: Discrete) -> Discrete
-    ensures { λ r. ⌜ r ≡ enteredBy parameter a target out operator ⌝ }
+fn entered_d(parameter: u8, a: u32, target: u32, out: Discrete, kept: Discrete) -> Discrete
+    ensures { λ r. ⌜ r ≡ enteredBy parameter a target out kept ⌝ }
 {
     match parameter {
-        5 => blocks::operator_after_d(target, a, out, operator),
-        _ => operator,
+        5 => blocks::operator_after_d(target, a, out, kept),
+        _ => kept,
     }
 }
 
@@ -436,14 +436,14 @@ fn di_written(block: DiBlock, parameter: u8, a: u32, b: u32) -> DiBlock
     let old = block.state;
     let written = discrete_pair(a, b);
     let taken = entered_d(parameter, a, block.settings.target, old.out, old.operator);
-    let with_written = di::operated(old, written);
-    let with_taken = di::operated(old, taken);
+    let di_with_written = di::operated(old, written);
+    let di_with_taken = di::operated(old, taken);
     let mut next = block;
     next.settings = settings;
-    next.state = with_taken;
+    next.state = di_with_taken;
     next.st_rev = rev;
     match parameter {
-        10 => next.state = with_written,
+        10 => next.state = di_with_written,
         _ => {}
     }
     next
@@ -458,14 +458,14 @@ fn dout_written(block: DoutBlock, parameter: u8, a: u32, b: u32) -> DoutBlock
     let old = block.state;
     let written = discrete_pair(a, b);
     let taken = entered_d(parameter, a, block.settings.target, old.out, old.operator);
-    let with_written = dout::operated(old, written);
-    let with_taken = dout::operated(old, taken);
+    let dout_with_written = dout::operated(old, written);
+    let dout_with_taken = dout::operated(old, taken);
     let mut next = block;
     next.settings = settings;
-    next.state = with_taken;
+    next.state = dout_with_taken;
     next.st_rev = rev;
     match parameter {
-        10 => next.state = with_written,
+        10 => next.state = dout_with_written,
         _ => {}
     }
     next

@@ -314,7 +314,7 @@ pub record Cited : Type 0 where
   -- Q3.3, Q3.5: fresh DO gives FSAFE_VAL_D, 0 with 0x48, and goes there; under INVERT 1 to 1
   pub sluice : (fed : Fed) (seen : Seen) → (given 5 (start ▷ ticked false fed seen) ≡ pair 0 0x48) × (orderD start false ≡ OrderD.Position 0)
       × (given 5 (start ▷ wrote 5 15 1 0 ▷ ticked false fed seen) ≡ pair 1 0x48) × (orderD (start ▷ wrote 5 15 1 0) false ≡ OrderD.Position 1)
-  -- Q3.4b, Q3.7: of two bytes on SP_D 01 80 is a setpoint; 05 80 counts for nothing, and 05 A0 is IFS
+  -- Q3.4b, Q3.7: on SP_D 1 with 0x80 is a setpoint; 5 with 0x80 counts for nothing, and 5 with 0xA0 is IFS
   pub sluiced : (orderD (start ▷ telegram 2 (1 ∷ 0x80 ∷ [])) false ≡ OrderD.Position 1)
       × (orderD (start ▷ telegram 2 (1 ∷ 0x80 ∷ []) ▷ telegram 2 (5 ∷ 0x80 ∷ [])) false ≡ OrderD.Position 1)
       × (orderD (start ▷ telegram 2 (1 ∷ 0x80 ∷ []) ▷ telegram 2 (5 ∷ 0xa0 ∷ [])) false ≡ OrderD.Position 0)

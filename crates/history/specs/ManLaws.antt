@@ -23,14 +23,16 @@ use Rattle.dout.specs.Tick as Dout
 use Rattle.parameters.specs.Table.{ain, ao, di, dout, discrete, entryIn, entryOf}
 use Rattle.parameters.specs.Refused.{targetIn}
 use Rattle.device.specs.declared.Device.{Device}
-use Rattle.device.specs.Stored.{enteredBy, operatorBy, ainSettings, aoSettings, diSettings, doutSettings, ainWritten, aoWritten, diWritten, doutWritten, storedIn}
+use Rattle.device.specs.Stored.{enteredBy, operatorBy, ainSettings, aoSettings, diSettings, doutSettings}
+use Rattle.device.specs.Stored.{ainWritten, aoWritten, diWritten, doutWritten, storedIn}
 use Rattle.device.specs.Read.{ainWords, aoWords, diWords, doutWords, discreteWords, wordsOf, readOf}
 use Rattle.device.specs.Calls.{standingOf, writeOf, tickOf}
 use Rattle.device.specs.Laws.{stored}
 use Rattle.history.specs.Past.{History, _▷_, carried}
 use Rattle.history.specs.PastLaws.{From, here, later, latest-holds}
 use Rattle.history.specs.Calls.{Fed, Seen, Event, ticked, telegram, wrote, loaded, warmed}
-use Rattle.history.specs.Rules.{isTick, isStart, pair, code, man, modeAt, lastOut, handed, orElse, operator, outNumber, senses, position, Drive, drives, driven, given}
+use Rattle.history.specs.Rules.{isTick, isStart, pair, code, man, modeAt, lastOut, handed, orElse, operator, outNumber}
+use Rattle.history.specs.Rules.{senses, position, Drive, drives, driven, given}
 
 -- Of AIN, AO, DI and DO, whose Man ticks give the operator's pair.
 abbrev pub Operated : ℕ → Type 0
@@ -112,12 +114,13 @@ no-move d operated h h′ b other f fault m = rw m (ap (λ (p : Pair). position 
 pub man-stands : (d : Device) (b : ℕ) (x y : Pair) (z : Discrete) (block : ℕ) → Operated block → eqb (targetIn (standingOf d) block) man ≡ false
     → writeOf d block 5 man b .answer ≡ Accepted
     → readOf (tickOf (writeOf d block 5 man b .device) false x y z .device) block (outNumber block) ≡ readOf d block (outNumber block)
-unfolding targetIn readOf wordsOf ainWords aoWords diWords doutWords discreteWords entryOf entryIn ain ao di dout discrete tickOf storedIn ainWritten aoWritten diWritten
-    doutWritten ainSettings aoSettings diSettings doutSettings operatorBy enteredBy operatorAfter actualMode Ain.tickOf Ain.tickBy Ain.manTick Di.tickOf Di.tickBy Di.manTick
-    Ao.tickOf Ao.tickedWith Ao.givenIn Dout.tickOf Dout.tickedWith Dout.givenIn byMode operatedBy operatedDout
+unfolding targetIn readOf wordsOf ainWords aoWords diWords doutWords discreteWords entryOf entryIn ain ao di dout discrete tickOf storedIn
+    ainWritten aoWritten diWritten doutWritten ainSettings aoSettings diSettings doutSettings operatorBy enteredBy operatorAfter actualMode
+    Ain.tickOf Ain.tickBy Ain.manTick Di.tickOf Di.tickBy Di.manTick Ao.tickOf Ao.tickedWith Ao.givenIn Dout.tickOf Dout.tickedWith Dout.givenIn
+    byMode operatedBy operatedDout
 man-stands d b x y z =
-    operated-each Stands (λ other e. rw (stored d 1 5 man b e, other)) (λ other e. rw (stored d 3 5 man b e, other)) (λ other e. rw (stored d 4 5 man b e, other))
-    (λ other e. rw (stored d 5 5 man b e, other))
+    operated-each Stands (λ other e. rw (stored d 1 5 man b e, other)) (λ other e. rw (stored d 3 5 man b e, other))
+    (λ other e. rw (stored d 4 5 man b e, other)) (λ other e. rw (stored d 5 5 man b e, other))
   where
     Stands : ℕ → Type 0
     Stands block = eqb (targetIn (standingOf d) block) man ≡ false → writeOf d block 5 man b .answer ≡ Accepted

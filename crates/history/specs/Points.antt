@@ -36,7 +36,8 @@ pub record Points : Type 0 where
   pub a : (qualityOf 0x4e ≡ 1) × (subStatusOf 0x4e ≡ 3) × (limitsOf 0x4e ≡ 2)
   -- K2: an input at half of PV_SCALE, as bytes on the bus
   pub b : (tot : Pair) (di : Discrete)
-      → fiveBytes (reached (write 1 11 0x4080_0000 0x41a0_0000 ∷ tick false (record { ain = record { bits = 0x4140_0000; status = 0x80 }; tot = tot; di = di }) ∷ []) .ain .state .out)
+      → fiveBytes (reached (write 1 11 0x4080_0000 0x41a0_0000
+      ∷ tick false (record { ain = record { bits = 0x4140_0000; status = 0x80 }; tot = tot; di = di }) ∷ []) .ain .state .out)
       ≡ 0x42 ∷ 0x48 ∷ 0x00 ∷ 0x00 ∷ 0x80 ∷ []
   -- K3: a filter step by a sixteenth
   pub c : filtered (floatOf 0x3fc0_0000) (kept (whole 0))

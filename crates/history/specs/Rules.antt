@@ -1,6 +1,6 @@
 -- The history rules of document 01, with requests 1 to 3 of document 02: what the head answers, from the accepted events alone (R2): the arguments of
--- calls, and OUT of AIN and AO and OUT_D of DI and DO as read after each tick. Every memory and every choice is said here. What is cited of other crates, arithmetic, encodings
--- and the table's allowed words, is listed in tests/cited and pinned in Cited.
+-- calls, and OUT of AIN and AO and OUT_D of DI and DO as read after each tick. Every memory and every choice is said here. What is cited of other
+-- crates, arithmetic, encodings and the table's allowed words, is listed in tests/cited and pinned in Cited.
 -- A letter and number before a colon is a sentence of the paper, as docs/TRACE.md counts them. Assumes nothing.
 use Prim.Native.Nat.{ℕ, _+_, _*_, _%_}
 use mathlib.Core.Bool.{Bool, true, false, not, _&&_, _||_, cond}
@@ -242,9 +242,9 @@ refused n = Refused (ground n)
 abbrev pub lacksTable : History Event → ℕ → ℕ → ℕ → Bool
 lacksTable h block number a = eqb block 1 && eqb number 13 && eqb a 1 && not (tabled h)
 
--- F2 to F8, Q3.10: the grounds on which a write is refused, the first that is met: there is no such block (1); it has no such parameter (2); that one is read only
--- (3); the device is locked and it isn't the lock (4); its words are not allowed, or it lacks a table (5); it is an output and the block's target isn't
--- Man (6)
+-- F2 to F8, Q3.10: the grounds on which a write is refused, the first that is met: there is no such block (1); it has no such parameter (2); that one is
+-- read only (3); the device is locked and it isn't the lock (4); its words are not allowed, or it lacks a table (5); it is an output and the block's
+-- target isn't Man (6)
 unfoldable pub toWrite : History Event → ℕ → ℕ → ℕ → ℕ → Answer
 toWrite h block number a b =
     cond (ltb 5 block) (refused 1)

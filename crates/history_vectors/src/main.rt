@@ -1,5 +1,5 @@
 // Lists of calls as bytes, replayed from the factory device, and what reads give after them, worked by hand from document 01 and from
-// document 02, requests 1 and 2.
+// document 02, requests 1 to 3.
 // A line each: the list's name and `passed`, or what differs from the paper. What it would catch: a call read at the
 // wrong place or with its words in another order, a refused call that counts, a malformed list of which a part counts.
 use ao::Order;
@@ -7,6 +7,7 @@ use device::Reading;
 use history::Replayed;
 use libc::STDOUT_FILENO;
 use wire::Answer;
+use wire::Discrete;
 use wire::Pair;
 
 // ---- what a list writes
@@ -51,7 +52,7 @@ fn warm_start(list: &mut [u8], at: usize) -> usize {
     put_number(list, at, 0)
 }
 
-// A tick with a fault byte and both pairs.
+// A tick with a fault byte and the pairs of AIN and TOT; DI's is 0 and Good.
 fn tick_with(
     list: &mut [u8],
     at: usize,
@@ -64,7 +65,19 @@ fn tick_with(
     let a = put_number(list, at, 1);
     let b = put_number(list, a, fault);
     let c = put_pair(list, b, ain, ain_status);
-    put_pair(list, c, tot, tot_status)
+    let d = put_pair(list, c, tot, tot_status);
+    let e = put_number(list, d, 0);
+    put_number(list, e, 0x80)
+}
+
+// A tick with DI's pair; the others are 0 and Good.
+fn tick_contact(list: &mut [u8], at: usize, value: u8, status: u8) -> usize {
+    let a = put_number(list, at, 1);
+    let b = put_number(list, a, 0);
+    let c = put_pair(list, b, 0, 0x80);
+    let d = put_pair(list, c, 0, 0x80);
+    let e = put_number(list, d, value);
+    put_number(list, e, status)
 }
 
 // Ticks without a fault: AIN's value Good and TOT's rate Good, the other 0 and Good.
@@ -186,7 +199,11 @@ fn reads_started(good: bool, r: Replayed) -> bool {
     let g = reads(g, r, 2, 6, 0x80, 0);
     let g = reads(g, r, 2, 10, 0, 0x1f);
     let g = reads(g, r, 3, 6, 0x80, 0);
-    reads(g, r, 3, 37, 0, 0x1f)
+    let g = reads(g, r, 3, 37, 0, 0x1f);
+    let g = reads(g, r, 4, 6, 0x80, 0);
+    let g = reads(g, r, 4, 10, 0, 0x1f);
+    let g = reads(g, r, 5, 6, 0x80, 0);
+    reads(g, r, 5, 10, 0, 0x1f)
 }
 
 // All that the factory device reads: the defaults in brackets, ST_REVs and alarms 0.
@@ -207,7 +224,19 @@ fn reads_factory(good: bool, r: Replayed) -> bool {
     let g = reads(g, r, 3, 24, 1, 0);
     let g = reads(g, r, 3, 25, 0, 0);
     let g = reads(g, r, 3, 36, 0, 0);
-    reads(g, r, 3, 38, 0, 0x42c8_0000)
+    let g = reads(g, r, 3, 38, 0, 0x42c8_0000);
+    let g = reads_discrete(g, r, 4);
+    let g = reads_discrete(g, r, 5);
+    reads(g, r, 5, 22, 0, 0)
+}
+
+// What DI and DO have alike: target Auto, all else 0.
+fn reads_discrete(good: bool, r: Replayed, block: u8) -> bool {
+    let g = reads(good, r, block, 1, 0, 0);
+    let g = reads(g, r, block, 5, 0x08, 0);
+    let g = reads(g, r, block, 15, 0, 0);
+    let g = reads(g, r, block, 20, 0, 0);
+    reads(g, r, block, 21, 0, 0)
 }
 
 fn reads_ain(good: bool, r: Replayed) -> bool {
@@ -383,7 +412,11 @@ fn man_entered_by_others() {
         bits: 0,
         status: 0x80,
     };
-    let order = history::order_after(first(&list, at), false, none, none);
+    let open = Discrete {
+        value: 0,
+        status: 0x80,
+    };
+    let order = history::order_after(first(&list, at), false, none, none, open);
     ordered(b"the order on entering Man from Safe", order, 0x4248_0000);
     let at = tick(&mut list, at, 0);
     let r = replayed(b"into Man from Safe", &list, at);
@@ -572,6 +605,89 @@ fn faulty() {
     end(reads(g, r, 3, 37, 0, 0x1f));
 }
 
+// A closed contact, Good with its limits; then 7: no value, FSAFE_VAL_D 0 with 48. Type 1 holds the 1, type 2 keeps old OUT_D under
+// 04. INVERT turns what comes and leaves FSAFE_VAL_D.
+fn contact() {
+    let mut list = [0u8; 256];
+    let at = tick_contact(&mut list, 0, 1, 0x83);
+    let r = replayed(b"a contact", &list, at);
+    let g = formed(r);
+    let g = reads(g, r, 4, 6, 0x08, 0);
+    end(reads(g, r, 4, 10, 1, 0x83));
+    let unusable = tick_contact(&mut list, at, 7, 0x80);
+    let r = replayed(b"then 7", &list, unusable);
+    end(reads(formed(r), r, 4, 10, 0, 0x48));
+    let next = write(&mut list, at, 4, 20, 1, 0);
+    let next = tick_contact(&mut list, next, 7, 0x80);
+    let r = replayed(b"7 under type 1", &list, next);
+    end(reads(formed(r), r, 4, 10, 1, 0x44));
+    let next = write(&mut list, at, 4, 20, 2, 0);
+    let next = tick_contact(&mut list, next, 7, 0x80);
+    let r = replayed(b"7 under type 2", &list, next);
+    end(reads(formed(r), r, 4, 10, 1, 0x04));
+    let next = write(&mut list, at, 4, 15, 1, 0);
+    let next = write(&mut list, next, 4, 21, 1, 0);
+    let turned = tick_contact(&mut list, next, 1, 0x80);
+    let r = replayed(b"INVERT 1", &list, turned);
+    end(reads(formed(r), r, 4, 10, 0, 0x80));
+    let turned = tick_contact(&mut list, next, 1, 0x0d);
+    let r = replayed(b"INVERT 1, a Bad input", &list, turned);
+    let g = reads(formed(r), r, 4, 1, 2, 0);
+    end(reads(g, r, 4, 10, 1, 0x48));
+}
+
+// Fresh, DO goes to FSAFE_VAL_D. SP_D 1 is followed for the tick after it under FSAFE_TIME 0, and then not. 05 80 is nothing; 05 A0 is
+// IFS. INVERT turns FSAFE_VAL_D too. In RCas SP_D does not count.
+fn sluice() {
+    let mut list = [0u8; 256];
+    let fresh = tick(&mut list, 0, 0);
+    let r = replayed(b"a sluice without a telegram", &list, fresh);
+    end(reads(formed(r), r, 5, 10, 0, 0x48));
+    let at = telegram(&mut list, 0, 2, 0, 2, b"\x01\x80");
+    let followed = tick(&mut list, at, 0);
+    let r = replayed(b"SP_D 1", &list, followed);
+    end(reads(formed(r), r, 5, 10, 1, 0x80));
+    let silent = tick(&mut list, followed, 0);
+    let r = replayed(b"a tick later", &list, silent);
+    end(reads(formed(r), r, 5, 10, 0, 0x48));
+    let nothing = telegram(&mut list, at, 2, 0, 2, b"\x05\x80");
+    let next = tick(&mut list, nothing, 0);
+    let r = replayed(b"then 05 80", &list, next);
+    end(reads(formed(r), r, 5, 10, 1, 0x80));
+    let initiated = telegram(&mut list, at, 2, 0, 2, b"\x05\xa0");
+    let next = write(&mut list, initiated, 5, 15, 1, 0);
+    let next = tick(&mut list, next, 0);
+    let r = replayed(b"then 05 A0, INVERT 1", &list, next);
+    end(reads(formed(r), r, 5, 10, 1, 0x48));
+    let remote = write(&mut list, at, 5, 5, 0x02, 0);
+    let next = tick(&mut list, remote, 0);
+    let r = replayed(b"SP_D 1 in RCas", &list, next);
+    end(reads(formed(r), r, 5, 10, 0, 0x48));
+    let next = telegram(&mut list, remote, 3, 0, 2, b"\x01\xc0");
+    let next = tick(&mut list, next, 0);
+    let r = replayed(b"RCAS_IN_D 1 in RCas", &list, next);
+    let g = reads(formed(r), r, 5, 6, 0x02, 0);
+    end(reads(g, r, 5, 10, 1, 0x80));
+}
+
+// Into Man at 1 the sluice stands, and so does the contact; INVERT has no part in it.
+fn man_entered_discrete() {
+    let mut list = [0u8; 256];
+    let at = telegram(&mut list, 0, 2, 0, 2, b"\x01\x80");
+    let at = tick_contact(&mut list, at, 1, 0x81);
+    let at = write(&mut list, at, 4, 5, 0x10, 0);
+    let at = write(&mut list, at, 5, 5, 0x10, 0);
+    let at = write(&mut list, at, 5, 15, 1, 0);
+    let at = tick_contact(&mut list, at, 0, 0x80);
+    let r = replayed(b"Man entered in DI and DO", &list, at);
+    let g = reads(formed(r), r, 4, 10, 1, 0x81);
+    end(reads(g, r, 5, 10, 1, 0x80));
+    let at = write(&mut list, at, 5, 10, 0, 0xc3);
+    let at = tick_contact(&mut list, at, 0, 0x80);
+    let r = replayed(b"OUT_D written", &list, at);
+    end(reads(formed(r), r, 5, 10, 0, 0xc3));
+}
+
 // ---- answers after a list
 
 fn numbered(name: &[u8], answer: Answer, number: u8) {
@@ -626,11 +742,34 @@ fn order_after() {
         bits: 0,
         status: 0x80,
     };
-    let order = history::order_after(first(&list, at), false, none, none);
+    let open = Discrete {
+        value: 0,
+        status: 0x80,
+    };
+    let order = history::order_after(first(&list, at), false, none, none, open);
     ordered(b"a tick's order after a telegram", order, 0x4248_0000);
+    let at = telegram(&mut list, at, 2, 0, 2, b"\x01\x80");
+    let order = history::order_d_after(first(&list, at), false, none, none, open);
+    ordered_d(b"DO's order after a telegram of two bytes", order, 1);
 }
 
-// Ground 6 fresh, and none once the target is Man. Input 2 is 8, four bytes are 7.
+fn ordered_d(name: &[u8], order: dout::Order, value: u8) {
+    text(name);
+    text(b":");
+    match order {
+        dout::Order::Position(v) => {
+            end(v == value);
+        }
+        dout::Order::Safe => {
+            text(b" Safe\n");
+        }
+        dout::Order::Rest => {
+            text(b" Rest\n");
+        }
+    }
+}
+
+// Ground 6 fresh, and none once the target is Man. Four bytes are 7.
 fn answers_after() {
     let mut list = [0u8; 128];
     let fresh = history::write_after(b"", 1, 10, 0x4120_0000, 0x80);
@@ -638,23 +777,37 @@ fn answers_after() {
     let at = write(&mut list, 0, 1, 5, 0x10, 0);
     let man = history::write_after(first(&list, at), 1, 10, 0x4120_0000, 0x80);
     numbered(b"a write of OUT, target Man", man, 0);
-    let two = history::telegram_after(first(&list, at), 2, b"\x42\x48\x00\x00");
-    numbered(b"a telegram on input 2 after a list", two, 8);
     let four = history::telegram_after(first(&list, at), 1, b"\x42\x48\x00\x00");
     numbered(b"a telegram of 4 bytes after a list", four, 7);
 }
 
-// An image of 14 bytes is 7; of 16 it has AIN's five bytes, TOT's and AO's, fresh 0 with 1F, and its last byte as it was.
+// OUT_D 2 is 5, before 6; block 6 is 1. Input 4 is 8, and three bytes on input 2 are 7.
+fn answers_of_discrete() {
+    let two = history::write_after(b"", 4, 10, 2, 0x80);
+    numbered(b"a write of OUT_D 2, target Auto", two, 5);
+    let one = history::write_after(b"", 5, 10, 1, 0x80);
+    numbered(b"a write of OUT_D 1, target Auto", one, 6);
+    let six = history::write_after(b"", 6, 1, 0, 0);
+    numbered(b"a write to block 6", six, 1);
+    let input = history::telegram_after(b"", 4, b"\x01\x80");
+    numbered(b"a telegram on input 4 after a list", input, 8);
+    let three = history::telegram_after(b"", 2, b"\x01\x80\x00");
+    numbered(b"a telegram of 3 bytes on input 2 after a list", three, 7);
+}
+
+// An image of 18 bytes is 7; of 20 it has five bytes of AIN, of TOT and of AO and two of DI and of DO, fresh 0 with 1F, and its last
+// byte as it was.
 fn image_after() {
-    let mut short = [9u8; 14];
+    let mut short = [9u8; 18];
     let refused = history::image_after(b"", &mut short);
-    numbered(b"an image of 14 bytes", refused, 7);
-    let mut room = [9u8; 16];
+    numbered(b"an image of 18 bytes", refused, 7);
+    let mut room = [9u8; 20];
     let filled = history::image_after(b"", &mut room);
-    numbered(b"an image of 16 bytes", filled, 0);
+    numbered(b"an image of 20 bytes", filled, 0);
     text(b"its bytes:");
     let given = (room[4] == 0x1f) & (room[9] == 0x1f) & (room[14] == 0x1f);
-    end(given & (room[0] == 0) & (room[13] == 0) & (room[15] == 9));
+    let discrete = (room[15] == 0) & (room[16] == 0x1f) & (room[17] == 0) & (room[18] == 0x1f);
+    end(given & discrete & (room[0] == 0) & (room[13] == 0) & (room[19] == 9));
 }
 
 // A rate of 10 adds 1000, and ALARM_HYS is 0.5.
@@ -758,7 +911,7 @@ fn ticks_malformed() {
     let at = tick_with(&mut list, 0, 2, 0x4248_0000, 0x80, 0, 0x80);
     malformed(b"malformed, a tick with fault 2", &list, at);
     tick(&mut list, 0, 0x4248_0000);
-    malformed(b"malformed, a tick of 11 bytes", &list, 11);
+    malformed(b"malformed, a tick of 13 bytes", &list, 13);
     malformed(b"malformed, a tick of 1 byte", &list, 1);
 }
 
@@ -823,15 +976,20 @@ fn main() {
     telegram_of(b"a telegram of 4 bytes", 0, b"\x42\x48\x00\x00");
     telegram_of(b"a telegram of 6 bytes", 0, b"\x42\x48\x00\x00\x80\x00");
     telegram_of(b"a telegram of no bytes", 0, b"");
-    telegram_of(b"a telegram on input 2", 2, b"\x42\x48\x00\x00\x80");
+    telegram_of(b"five bytes on input 2", 2, b"\x42\x48\x00\x00\x80");
+    telegram_of(b"a telegram on input 4", 4, b"\x42\x48\x00\x00\x80");
     refused_after_accepted();
     totals();
     total_kept();
     alarm();
     revisions();
     faulty();
+    contact();
+    sluice();
+    man_entered_discrete();
     order_after();
     answers_after();
+    answers_of_discrete();
     image_after();
     total_after();
     by_table();

@@ -32,12 +32,17 @@ valueAt n ws k = getD (valuesOf n ws) k 0
 abbrev pub aloneCall : Command → List (List ℕ) → Command
 aloneCall command ws = cond (isEmpty ws) command Command.Error
 
--- `tick FAULT AIN_BITS AIN_STATUS TOT_BITS TOT_STATUS`. "The fault flag: 0 or 1. Words and value bits: 0 to 4,294,967,295." "status .. : 0 to 255."
+-- `tick FAULT AIN_BITS AIN_STATUS TOT_BITS TOT_STATUS DI_VALUE DI_STATUS`. "The fault flag: 0 or 1. Words and value bits: 0 to 4,294,967,295."
+-- "status .. : 0 to 255."; DI's: "value and status 0 to 255"
+abbrev pub tickLimits : List ℕ
+tickLimits = 1 ∷ 4294967295 ∷ 255 ∷ 4294967295 ∷ 255 ∷ 255 ∷ 255 ∷ []
+
+abbrev pub tickOf : List (List ℕ) → Command
+tickOf ws =
+    Command.Tick (eqb (valueAt 7 ws 0) 1) (valueAt 7 ws 1) (valueAt 7 ws 2) (valueAt 7 ws 3) (valueAt 7 ws 4) (valueAt 7 ws 5) (valueAt 7 ws 6)
+
 unfoldable pub tickCall : List (List ℕ) → Command
-tickCall ws =
-    cond (fitting (1 ∷ 4294967295 ∷ 255 ∷ 4294967295 ∷ 255 ∷ []) ws)
-    (Command.Tick (eqb (valueAt 5 ws 0) 1) (valueAt 5 ws 1) (valueAt 5 ws 2) (valueAt 5 ws 3) (valueAt 5 ws 4))
-    Command.Error
+tickCall ws = cond (fitting tickLimits ws) (tickOf ws) Command.Error
 
 -- "BYTE BYTE ..": at most so many, each 0 to 255
 abbrev pub areBytes : ℕ → List (List ℕ) → Bool
@@ -100,7 +105,7 @@ abbrev pub Within : Command → Type 0
 Within Command.Nothing = Unit
 Within Command.Error = Unit
 Within Command.Factory = Unit
-Within (Command.Tick fault x s y t) = Unit
+Within (Command.Tick fault x s y t z u) = Unit
 Within (Command.Telegram input n) = n ≤ 64
 Within (Command.Write block parameter a b) = Unit
 Within Command.Warm = Unit

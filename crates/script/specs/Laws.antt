@@ -15,8 +15,8 @@ use Rattle.text.specs.Place.{replaced, placeAfter, bytesPut}
 use Rattle.text.specs.Digits.{hexByte}
 use Rattle.script.specs.declared.Name.{Name}
 use Rattle.script.specs.declared.Command.{Command}
-use Rattle.script.specs.Command.{nameOf, valueAt, areBytes, tickCall, telegramCall, writeCall, readCall, imageCall, partCall, loadCall, callOf}
-use Rattle.script.specs.Command.{commandOf, Within}
+use Rattle.script.specs.Command.{nameOf, valueAt, tickLimits, tickOf, tickCall, areBytes, telegramCall, writeCall, readCall, imageCall, partCall}
+use Rattle.script.specs.Command.{loadCall, callOf, commandOf, Within}
 use Rattle.script.specs.Answer.{allPut, placeAfterAll, joined, rowParts}
 use Rattle.script.specs.Words.{some, wordsAfter, wordsOf, isEmpty, firstOf, restOf, between, NextWord, numberOf, upTo, valueOf, fitting, eachOf}
 use Rattle.script.specs.Words.{wordValue, valuesOf, sameBytes}
@@ -257,9 +257,7 @@ bytes-within most ws e = leb-true (length ws) most (both-true (leb (length ws) m
 call-within : (name : Name) (ws : List (List ℕ)) → Within (callOf name ws)
 unfolding callOf tickCall telegramCall writeCall readCall imageCall partCall loadCall
 call-within Name.Factory ws = or-error (isEmpty ws) Command.Factory (λ _. tt)
-call-within Name.Tick ws =
-    or-error (fitting (1 ∷ 4294967295 ∷ 255 ∷ 4294967295 ∷ 255 ∷ []) ws)
-    (Command.Tick (eqb (valueAt 5 ws 0) 1) (valueAt 5 ws 1) (valueAt 5 ws 2) (valueAt 5 ws 3) (valueAt 5 ws 4)) (λ _. tt)
+call-within Name.Tick ws = or-error (fitting tickLimits ws) (tickOf ws) (λ _. tt)
 call-within Name.Telegram ws =
     or-error (upTo 255 (numberOf (firstOf ws)) && areBytes 64 (restOf ws)) (Command.Telegram (wordValue (firstOf ws)) (length (restOf ws)))
     (λ e. bytes-within 64 (restOf ws) (both-true (upTo 255 (numberOf (firstOf ws))) (areBytes 64 (restOf ws)) e .1))

@@ -1,8 +1,9 @@
 // The line that answers a call, put into a buffer.
 ghost use mathlib.Core.Path.{_≡_};
 ghost use mathlib.Core.List.{[]};
-ghost use Rattle.script.specs.Answer.{placeAfterAll, allPut, answerParts, rowParts};
+ghost use Rattle.script.specs.Answer.{placeAfterAll, allPut, orderParts, answerParts, rowParts};
 use crate::Answer;
+use crate::Order;
 
 // Puts a row of bytes, each after a space.
 fn put_row(buf: &mut [u8], at: usize, row: &[u8]) -> usize
@@ -38,12 +39,41 @@ fn put_refused(buf: &mut [u8], at: usize, number: u8) -> usize
 }
 
 fn put_position(buf: &mut [u8], at: usize, bits: u32) -> usize
-    ensures { λ r. ⌜ r ≡ placeAfterAll (now (buf .entry)) at (answerParts (Answer.Position bits) []) ⌝ }
-    ensures { λ _. ⌜ now (buf .exit) ≡ allPut (now (buf .entry)) at (answerParts (Answer.Position bits) []) ⌝ }
+    ensures { λ r. ⌜ r ≡ placeAfterAll (now (buf .entry)) at (orderParts (Order.Position bits)) ⌝ }
+    ensures { λ _. ⌜ now (buf .exit) ≡ allPut (now (buf .entry)) at (orderParts (Order.Position bits)) ⌝ }
 {
     let a = text::put_bytes(buf, at, b"position ");
-    let b = text::put_word(buf, a, bits);
-    text::put_bytes(buf, b, b"\n")
+    text::put_word(buf, a, bits)
+}
+
+fn put_position_d(buf: &mut [u8], at: usize, value: u8) -> usize
+    ensures { λ r. ⌜ r ≡ placeAfterAll (now (buf .entry)) at (orderParts (Order.PositionD value)) ⌝ }
+    ensures { λ _. ⌜ now (buf .exit) ≡ allPut (now (buf .entry)) at (orderParts (Order.PositionD value)) ⌝ }
+{
+    let a = text::put_bytes(buf, at, b"position ");
+    text::put_decimal(buf, a, value as u64)
+}
+
+fn put_order(buf: &mut [u8], at: usize, order: Order) -> usize
+    ensures { λ r. ⌜ r ≡ placeAfterAll (now (buf .entry)) at (orderParts order) ⌝ }
+    ensures { λ _. ⌜ now (buf .exit) ≡ allPut (now (buf .entry)) at (orderParts order) ⌝ }
+{
+    match order {
+        Order::Position(bits) => put_position(buf, at, bits),
+        Order::PositionD(value) => put_position_d(buf, at, value),
+        Order::Safe => text::put_bytes(buf, at, b"safe"),
+        Order::Rest => text::put_bytes(buf, at, b"rest"),
+    }
+}
+
+fn put_orders(buf: &mut [u8], at: usize, ao: Order, dout: Order) -> usize
+    ensures { λ r. ⌜ r ≡ placeAfterAll (now (buf .entry)) at (answerParts (Answer.Orders ao dout) []) ⌝ }
+    ensures { λ _. ⌜ now (buf .exit) ≡ allPut (now (buf .entry)) at (answerParts (Answer.Orders ao dout) []) ⌝ }
+{
+    let a = put_order(buf, at, ao);
+    let b = text::put_bytes(buf, a, b" ");
+    let c = put_order(buf, b, dout);
+    text::put_bytes(buf, c, b"\n")
 }
 
 fn put_words(buf: &mut [u8], at: usize, first: u32, second: u32) -> usize
@@ -77,9 +107,7 @@ pub fn put_answer(buf: &mut [u8], at: usize, answer: Answer, row: &[u8]) -> usiz
         Answer::Ok => text::put_bytes(buf, at, b"ok\n"),
         Answer::Error => text::put_bytes(buf, at, b"error\n"),
         Answer::Refused(number) => put_refused(buf, at, number),
-        Answer::Position(bits) => put_position(buf, at, bits),
-        Answer::Safe => text::put_bytes(buf, at, b"safe\n"),
-        Answer::Rest => text::put_bytes(buf, at, b"rest\n"),
+        Answer::Orders(ao, dout) => put_orders(buf, at, ao, dout),
         Answer::Words(first, second) => put_words(buf, at, first, second),
         Answer::Bytes => put_bytes(buf, at, row),
         Answer::Total(total) => put_total(buf, at, total),

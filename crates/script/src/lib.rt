@@ -22,6 +22,8 @@ pub enum Command {
         ain_status: u8,
         tot_bits: u32,
         tot_status: u8,
+        di_value: u8,
+        di_status: u8,
     },
     // `bytes_after` two words gives the telegram's bytes, of which there are `length`.
     Telegram {
@@ -53,15 +55,22 @@ pub enum Command {
     },
 }
 
+// A drive order: AO's position is a float by its bits, DO's a discrete value.
+pub enum Order {
+    Position(u32),
+    PositionD(u8),
+    Safe,
+    Rest,
+}
+
 // What a call is answered. The bytes of `Bytes` are lent beside it.
 pub enum Answer {
     Nothing,
     Ok,
     Error,
     Refused(u8),
-    Position(u32),
-    Safe,
-    Rest,
+    // AO's order, and DO's.
+    Orders(Order, Order),
     Words(u32, u32),
     Bytes,
     Total(i64),
@@ -136,8 +145,8 @@ fn tick(line: &[u8], at: usize) -> Command
     requires { ⌜ at ≤ length (now line) ⌝ }
     ensures { λ r. ⌜ r ≡ tickCall (wordsOf (drop at (now (line .entry)))) ⌝ }
 {
-    let mut v = [0u64; 5];
-    let good = words::numbers(line, at, &[1, WORD, 255, WORD, 255], &mut v);
+    let mut v = [0u64; 7];
+    let good = words::numbers(line, at, &[1, WORD, 255, WORD, 255, 255, 255], &mut v);
     if good {
         let fault = v[0] == 1;
         return Command::Tick {
@@ -146,6 +155,8 @@ fn tick(line: &[u8], at: usize) -> Command
             ain_status: v[2] as u8,
             tot_bits: v[3] as u32,
             tot_status: v[4] as u8,
+            di_value: v[5] as u8,
+            di_status: v[6] as u8,
         };
     }
     Command::Error

@@ -37,41 +37,27 @@ returns-4 c =
 returns-5 : tie.Need-returns-5
 unfolding placeAfterAll allPut
 returns-5 c =
-    let e = c .before .before .put-position .ensures in
+    let e = c .before .before .put-orders .ensures in
     let t = c .before .before .before .before .before .answer2 .given .1 in
     (rw t (e .0), rw t (e .1))
 
 returns-6 : tie.Need-returns-6
 unfolding placeAfterAll allPut
 returns-6 c =
-    let e = c .before .before .put-bytes3 .ensures in
-    let t = c .before .before .before .before .before .enum-told4 .given .1 in
+    let e = c .before .before .put-words .ensures in
+    let t = c .before .before .before .before .before .answer3 .given .1 in
     (rw t (e .0), rw t (e .1))
 
 returns-7 : tie.Need-returns-7
 unfolding placeAfterAll allPut
 returns-7 c =
-    let e = c .before .before .put-bytes4 .ensures in
-    let t = c .before .before .before .before .before .enum-told5 .given .1 in
+    let e = c .before .before .put-bytes3 .ensures in
+    let t = c .before .before .before .before .enum-told4 .given .1 in
     (rw t (e .0), rw t (e .1))
 
 returns-8 : tie.Need-returns-8
 unfolding placeAfterAll allPut
 returns-8 c =
-    let e = c .before .before .put-words .ensures in
-    let t = c .before .before .before .before .before .answer3 .given .1 in
-    (rw t (e .0), rw t (e .1))
-
-returns-9 : tie.Need-returns-9
-unfolding placeAfterAll allPut
-returns-9 c =
-    let e = c .before .before .put-bytes5 .ensures in
-    let t = c .before .before .before .before .enum-told6 .given .1 in
-    (rw t (e .0), rw t (e .1))
-
-returns-10 : tie.Need-returns-10
-unfolding placeAfterAll allPut
-returns-10 c =
     let t = c .before .before .before .before .before .answer4 .given in
     let z = toZ-ofZ w64 (t .0 .0) (record { sfits = c .before .before .before .before .known-told4 .given .0 .1 }) in
     let e = rw z at (c .before .before .put-total .ensures) in
@@ -90,12 +76,6 @@ put-answer-spec =
     (λ c κs. search needs)
     (λ c. search needs)
     (λ c κs. search needs)
-    (λ c. search needs)
-    (λ c κs. search needs)
-    (λ c. search needs)
-    (λ c. search needs)
-    (λ c κs. search needs)
-    (λ c. search needs)
     (λ c. search needs)
     (λ c κs. search needs)
     (λ c. search needs)
@@ -118,8 +98,4 @@ put-answer-spec =
     (λ c. search needs)
     returns-7
     (λ c. search needs)
-    returns-8
-    (λ c. search needs)
-    returns-9
-    (λ c. search needs)
-    returns-10)
+    returns-8)
