@@ -852,18 +852,18 @@ pub fn warm_start(d: Device) -> Device
     let mut tot_next = d.tot;
     let mut ao_next = d.ao;
     let mut di_next = d.di;
-    let mut dout_next = d.dout;
+    let mut dout_after = d.dout;
     ain_next.state = ain_started;
     tot_next.state = tot_started;
     ao_next.state = ao_started;
     di_next.state = di_started;
-    dout_next.state = dout_started;
+    dout_after.state = dout_started;
     let mut next = d;
     next.ain = ain_next;
     next.tot = tot_next;
     next.ao = ao_next;
     next.di = di_next;
-    next.dout = dout_next;
+    next.dout = dout_after;
     next
 }
 

@@ -20,9 +20,10 @@ use Rattle.linearisation.specs.declared.Table.{Table}
 use Rattle.linearisation.specs.Table.{zeroPoint}
 use Rattle.device.specs.declared.Device.{Device}
 use Rattle.packing.specs.declared.Unpacked.{Unpacked}
-use Rattle.packing.specs.Words.{flag, twos, ofTwos, firstWords, ainWords, pointWords, tableWords, totWords, aoWords, wordsOf, Small}
+use Rattle.packing.specs.Words.{flag, twos, ofTwos, firstWords, ainWords, pointWords, tableWords, totWords, aoWords, diWords, doutWords, wordsOf, Small}
 use Rattle.packing.specs.Words.{half, point, points, table}
 use Rattle.packing.specs.Words.{ainSettings, ainState, ainOf, totSettings, totState, totOf, aoSettings, aoState, aoOf, deviceOf}
+use Rattle.packing.specs.Words.{diSettings, diState, diOf, doutSettings, doutState, doutOf}
 use Rattle.packing.specs.Packed.{bytesOf, packedOf, packBytes, wordsIn, sameBytes, accepted, refusedBy, unpackedOf}
 
 -- ---- words and bytes
@@ -256,40 +257,51 @@ module _ (t : Table) (full : length (t .points) ≡ 21) (f : Fitting (t .points)
 
 -- ---- a device packed
 
-pub packed-length : (d : Device) → length (packedOf d) ≡ 440
-unfolding packedOf wordsOf ainWords tableWords pointWords totWords aoWords
+pub packed-length : (d : Device) → length (packedOf d) ≡ 564
+unfolding packedOf wordsOf ainWords tableWords pointWords totWords aoWords diWords doutWords
 packed-length d = refl
 
 -- into a buffer of its own length
-pub pack-exact : (s : List ℕ) (d : Device) → length s ≡ 440 → packBytes s d ≡ packedOf d
+pub pack-exact : (s : List ℕ) (d : Device) → length s ≡ 564 → packBytes s d ≡ packedOf d
 unfolding packBytes
 pack-exact s d h =
-    rw (le-leb 440 (length s) (omega arith), drop-of-length-le s {i = 440} (omega arith)) (append-nil (packedOf d))
+    rw (le-leb 564 (length s) (omega arith), drop-of-length-le s {i = 564} (omega arith)) (append-nil (packedOf d))
 
--- the five parts put one after the other are the packed form
-pub pack-puts : (s : List ℕ) (d : Device) → 440 ≤ length s →
+-- the seven parts put one after the other are the packed form
+pub pack-puts : (s : List ℕ) (d : Device) → 564 ≤ length s →
     let front = replaced (replaced s 0 (bytesOf (firstWords (d .«write_locking»)))) 8 (bytesOf (ainWords (d .ain))) in
-    let all = replaced (replaced front 120 (bytesOf (tableWords (d .ain .table)))) 292 (bytesOf (totWords (d .tot))) in
-    replaced all 348 (bytesOf (aoWords (d .ao))) ≡ packBytes s d
-unfolding packBytes packedOf wordsOf ainWords tableWords pointWords totWords aoWords
+    let middle = replaced (replaced front 120 (bytesOf (tableWords (d .ain .table)))) 292 (bytesOf (totWords (d .tot))) in
+    let all = replaced (replaced middle 348 (bytesOf (aoWords (d .ao)))) 440 (bytesOf (diWords (d .di))) in
+    replaced all 488 (bytesOf (doutWords (d .dout))) ≡ packBytes s d
+unfolding packBytes packedOf wordsOf ainWords tableWords pointWords totWords aoWords diWords doutWords
 pack-puts s d h =
     let f = bytesOf (firstWords (d .«write_locking»)) in
     let a = bytesOf (ainWords (d .ain)) in
     let l = bytesOf (tableWords (d .ain .table)) in
     let t = bytesOf (totWords (d .tot)) in
     let o = bytesOf (aoWords (d .ao)) in
-    ap (λ (x : List ℕ). replaced (replaced (replaced x 120 l) 292 t) 348 o) (replaced-twice s 0 f a (omega arith))
-    ∙ ap (λ (x : List ℕ). replaced (replaced x 292 t) 348 o) (replaced-twice s 0 (f ++ a) l (omega arith))
-    ∙ ap (λ (x : List ℕ). replaced x 348 o) (replaced-twice s 0 (f ++ a ++ l) t (omega arith))
-    ∙ replaced-twice s 0 (f ++ a ++ l ++ t) o (omega arith)
-    ∙ rw (le-leb 440 (length s) h)
+    let i = bytesOf (diWords (d .di)) in
+    let u = bytesOf (doutWords (d .dout)) in
+    ap (λ (x : List ℕ). replaced (replaced (replaced (replaced (replaced x 120 l) 292 t) 348 o) 440 i) 488 u) (replaced-twice s 0 f a (omega arith))
+    ∙ ap (λ (x : List ℕ). replaced (replaced (replaced (replaced x 292 t) 348 o) 440 i) 488 u) (replaced-twice s 0 (f ++ a) l (omega arith))
+    ∙ ap (λ (x : List ℕ). replaced (replaced (replaced x 348 o) 440 i) 488 u) (replaced-twice s 0 (f ++ a ++ l) t (omega arith))
+    ∙ ap (λ (x : List ℕ). replaced (replaced x 440 i) 488 u) (replaced-twice s 0 (f ++ a ++ l ++ t) o (omega arith))
+    ∙ ap (λ (x : List ℕ). replaced x 488 u) (replaced-twice s 0 (f ++ a ++ l ++ t ++ o) i (omega arith))
+    ∙ replaced-twice s 0 (f ++ a ++ l ++ t ++ o ++ i) u (omega arith)
+    ∙ rw (le-leb 564 (length s) h)
+
+-- one part more
+step : {s s′ t ws ws′ : List ℕ} (at : ℕ) → t ≡ replaced s at (bytesOf ws) → s ≡ s′ → ws ≡ ws′ → t ≡ replaced s′ at (bytesOf ws′)
+step at e p q = rw (e, p, q)
 
 -- so buffers each of which has one part more end as the packed form
-pub pack-steps : (s : List ℕ) (d : Device) → 440 ≤ length s → {f a l t o s₁ s₂ s₃ s₄ s₅ : List ℕ} → f ≡ firstWords (d .«write_locking»)
-    → a ≡ ainWords (d .ain) → l ≡ tableWords (d .ain .table) → t ≡ totWords (d .tot) → o ≡ aoWords (d .ao) → s₁ ≡ replaced s 0 (bytesOf f)
-    → s₂ ≡ replaced s₁ 8 (bytesOf a) → s₃ ≡ replaced s₂ 120 (bytesOf l) → s₄ ≡ replaced s₃ 292 (bytesOf t) → s₅ ≡ replaced s₄ 348 (bytesOf o)
-    → s₅ ≡ packBytes s d
-pack-steps s d h f a l t o e₁ e₂ e₃ e₄ e₅ = rw (e₅, e₄, e₃, e₂, e₁, f, a, l, t, o) (pack-puts s d h)
+pub pack-steps : (s : List ℕ) (d : Device) → 564 ≤ length s → {f a l t o i u s₁ s₂ s₃ s₄ s₅ s₆ s₇ : List ℕ} → f ≡ firstWords (d .«write_locking»)
+    → a ≡ ainWords (d .ain) → l ≡ tableWords (d .ain .table) → t ≡ totWords (d .tot) → o ≡ aoWords (d .ao) → i ≡ diWords (d .di)
+    → u ≡ doutWords (d .dout) → s₁ ≡ replaced s 0 (bytesOf f) → s₂ ≡ replaced s₁ 8 (bytesOf a) → s₃ ≡ replaced s₂ 120 (bytesOf l)
+    → s₄ ≡ replaced s₃ 292 (bytesOf t) → s₅ ≡ replaced s₄ 348 (bytesOf o) → s₆ ≡ replaced s₅ 440 (bytesOf i) → s₇ ≡ replaced s₆ 488 (bytesOf u)
+    → s₇ ≡ packBytes s d
+pack-steps s d h f a l t o i u e₁ e₂ e₃ e₄ e₅ e₆ e₇ =
+    step 488 e₇ (step 440 e₆ (step 348 e₅ (step 292 e₄ (step 120 e₃ (step 8 e₂ (step 0 e₁ refl f) a) l) t) o) i) u ∙ pack-puts s d h
 
 -- a block's words are small and the block is read again from them
 module _ (d : Device) (first : Small (firstWords (d .«write_locking»)))
@@ -297,7 +309,9 @@ module _ (d : Device) (first : Small (firstWords (d .«write_locking»)))
     × (half (ainWords (d .ain)) 27 ≡ d .ain .«st_rev»))
     (lin : Small (tableWords (d .ain .table)) × (table (tableWords (d .ain .table)) 0 ≡ d .ain .table))
     (tot : Small (totWords (d .tot)) × (totOf (totWords (d .tot)) 0 ≡ d .tot))
-    (ao : Small (aoWords (d .ao)) × (aoOf (aoWords (d .ao)) 0 ≡ d .ao)) where
+    (ao : Small (aoWords (d .ao)) × (aoOf (aoWords (d .ao)) 0 ≡ d .ao))
+    (di : Small (diWords (d .di)) × (diOf (diWords (d .di)) 0 ≡ d .di))
+    (dout : Small (doutWords (d .dout)) × (doutOf (doutWords (d .dout)) 0 ≡ d .dout)) where
   small-all : Small (wordsOf d)
   unfolding wordsOf
   small-all =
@@ -305,41 +319,44 @@ module _ (d : Device) (first : Small (firstWords (d .«write_locking»)))
       let a = ainWords (d .ain) in
       let l = tableWords (d .ain .table) in
       let t = totWords (d .tot) in
-      let two = small-append (f ++ a) l (small-append f a first (ain .0)) (lin .0) in
-      small-append (f ++ a ++ l ++ t) (aoWords (d .ao)) (small-append (f ++ a ++ l) t two (tot .0)) (ao .0)
+      let o = aoWords (d .ao) in
+      let i = diWords (d .di) in
+      let three = small-append (f ++ a) l (small-append f a first (ain .0)) (lin .0) in
+      let five = small-append (f ++ a ++ l ++ t) o (small-append (f ++ a ++ l) t three (tot .0)) (ao .0) in
+      small-append (f ++ a ++ l ++ t ++ o ++ i) (doutWords (d .dout)) (small-append (f ++ a ++ l ++ t ++ o) i five (di .0)) (dout .0)
 
   device-back : deviceOf (wordsOf d) ≡ d
-  unfolding deviceOf wordsOf ainOf totOf aoOf ainSettings ainState totSettings totState aoSettings aoState ainWords totWords aoWords
-      table points tableWords pointWords
-  device-back = rw (ain .1, ain .2, ain .3, lin .1, tot .1, ao .1)
+  unfolding deviceOf wordsOf ainOf totOf aoOf diOf doutOf ainSettings ainState totSettings totState aoSettings aoState diSettings diState doutSettings
+      doutState ainWords totWords aoWords diWords doutWords table points tableWords pointWords
+  device-back = rw (ain .1, ain .2, ain .3, lin .1, tot .1, ao .1, di .1, dout .1)
 
   -- so what was packed is unpacked again
   pub unpack-pack : unpackedOf (packedOf d) ≡ accepted d
   unfolding unpackedOf packedOf
   unpack-pack =
-      let l : length (bytesOf (wordsOf d)) ≡ 440 = packed-length d in
+      let l : length (bytesOf (wordsOf d)) ≡ 564 = packed-length d in
       let w : wordsIn (bytesOf (wordsOf d)) ≡ wordsOf d = words-back (wordsOf d) small-all in
-      rw (w, device-back, eq-eqb (length (bytesOf (wordsOf d))) 440 l, same-self (bytesOf (wordsOf d)))
+      rw (w, device-back, eq-eqb (length (bytesOf (wordsOf d))) 564 l, same-self (bytesOf (wordsOf d)))
 
 -- ---- bytes unpacked
 
 module _ (s : List ℕ) where
-  pub unpack-length : (length s ≡ 440 → ⊥) → unpackedOf s ≡ refusedBy 7
+  pub unpack-length : (length s ≡ 564 → ⊥) → unpackedOf s ≡ refusedBy 7
   unfolding unpackedOf
-  unpack-length n = rw (ne-eqb (length s) 440 n)
+  unpack-length n = rw (ne-eqb (length s) 564 n)
 
-  pub unpack-yes : length s ≡ 440 → s ≡ packedOf (deviceOf (wordsIn s)) → unpackedOf s ≡ accepted (deviceOf (wordsIn s))
+  pub unpack-yes : length s ≡ 564 → s ≡ packedOf (deviceOf (wordsIn s)) → unpackedOf s ≡ accepted (deviceOf (wordsIn s))
   unfolding unpackedOf
-  unpack-yes l e = rw (eq-eqb (length s) 440 l, same-of s (packedOf (deviceOf (wordsIn s))) e)
+  unpack-yes l e = rw (eq-eqb (length s) 564 l, same-of s (packedOf (deviceOf (wordsIn s))) e)
 
-  pub unpack-no : length s ≡ 440 → (s ≡ packedOf (deviceOf (wordsIn s)) → ⊥) → unpackedOf s ≡ refusedBy 255
+  pub unpack-no : length s ≡ 564 → (s ≡ packedOf (deviceOf (wordsIn s)) → ⊥) → unpackedOf s ≡ refusedBy 255
   unfolding unpackedOf
-  unpack-no l n = rw (eq-eqb (length s) 440 l, same-not s (packedOf (deviceOf (wordsIn s))) n)
+  unpack-no l n = rw (eq-eqb (length s) 564 l, same-not s (packedOf (deviceOf (wordsIn s))) n)
 
   -- what is accepted packs to the bytes that it came from
   pub pack-unpack : unpackedOf s .answer ≡ 0 → packedOf (unpackedOf s .device) ≡ s
   unfolding unpackedOf
-  pack-unpack = go (eqb (length s) 440) (sameBytes s (packedOf d)) refl
+  pack-unpack = go (eqb (length s) 564) (sameBytes s (packedOf d)) refl
     where
       d : Device
       d = deviceOf (wordsIn s)

@@ -1,4 +1,4 @@
--- The packed form of a device, its 110 words as 440 bytes, and what bytes are unpacked to. Assumes nothing.
+-- The packed form of a device, its 141 words as 564 bytes, and what bytes are unpacked to. Assumes nothing.
 use Prim.Native.Nat.{ℕ}
 use mathlib.Core.Bool.{Bool, true, false, cond, _&&_}
 use mathlib.Core.List.{List, [], _∷_, _++_}
@@ -20,15 +20,15 @@ bytesOf (w ∷ ws) = wordBytes w ++ bytesOf ws
 unfoldable pub packedOf : Device → List ℕ
 packedOf d = bytesOf (wordsOf d)
 
--- into the front of a buffer, later bytes unchanged; a buffer under 440 bytes is refused and not changed
+-- into the front of a buffer, later bytes unchanged; a buffer under 564 bytes is refused and not changed
 abbrev pub packFits : List ℕ → Bool
-packFits s = leb 440 (length s)
+packFits s = leb 564 (length s)
 
 unfoldable pub packAnswer : List ℕ → Answer
 packAnswer s = cond (packFits s) Answer.Accepted (Answer.Refused (ground 7))
 
 unfoldable pub packBytes : List ℕ → Device → List ℕ
-packBytes s d = cond (packFits s) (packedOf d ++ drop 440 s) s
+packBytes s d = cond (packFits s) (packedOf d ++ drop 564 s) s
 
 -- four bytes a word; bytes that make no whole word are left out
 abbrev pub wordsIn : List ℕ → List ℕ
@@ -52,9 +52,9 @@ accepted d = record { device = d; answer = 0 }
 abbrev pub refusedBy : ℕ → Unpacked
 refusedBy n = record { device = factoryDevice; answer = n }
 
--- the device whose packed form the bytes are; refused are another length than 440, by 7, and bytes that no device packs to, by 255
+-- the device whose packed form the bytes are; refused are another length than 564, by 7, and bytes that no device packs to, by 255
 unfoldable pub unpackedOf : List ℕ → Unpacked
 unpackedOf s =
-    cond (eqb (length s) 440)
+    cond (eqb (length s) 564)
     (cond (sameBytes s (packedOf (deviceOf (wordsIn s)))) (accepted (deviceOf (wordsIn s))) (refusedBy 255))
     (refusedBy 7)

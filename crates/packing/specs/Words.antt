@@ -9,6 +9,7 @@ use lib.Ieee.{Float}
 use Rattle.numbers.specs.Floats.{floatOf, bitsOf}
 use Rattle.scaling.specs.declared.Scale.{Scale}
 use Rattle.wire.specs.declared.Pair.{Pair}
+use Rattle.wire.specs.declared.Discrete.{Discrete}
 use Rattle.linearisation.specs.declared.Point.{Point}
 use Rattle.linearisation.specs.declared.Table.{Table}
 use Rattle.linearisation.specs.Table.{zeroPoint}
@@ -21,9 +22,17 @@ use Rattle.tot.specs.declared.State.{State as TotState}
 use Rattle.ao.specs.declared.Input.{Input}
 use Rattle.ao.specs.declared.Settings.{Settings as AoSettings}
 use Rattle.ao.specs.declared.State.{State as AoState}
+use Rattle.di.specs.declared.Kept.{Kept as KeptD}
+use Rattle.di.specs.declared.Settings.{Settings as DiSettings}
+use Rattle.di.specs.declared.State.{State as DiState}
+use Rattle.dout.specs.declared.Input.{Input as InputD}
+use Rattle.dout.specs.declared.Settings.{Settings as DoutSettings}
+use Rattle.dout.specs.declared.State.{State as DoutState}
 use Rattle.device.specs.declared.AinBlock.{AinBlock}
 use Rattle.device.specs.declared.TotBlock.{TotBlock}
 use Rattle.device.specs.declared.AoBlock.{AoBlock}
+use Rattle.device.specs.declared.DiBlock.{DiBlock}
+use Rattle.device.specs.declared.DoutBlock.{DoutBlock}
 use Rattle.device.specs.declared.Device.{Device}
 
 -- ---- a device as words
@@ -124,13 +133,55 @@ aoWords b =
     ∷ b .«st_rev»
     ∷ []
 
+-- Q3.2a: DI and DO
+unfoldable pub diWords : DiBlock → List ℕ
+diWords b =
+    b .settings .target
+    ∷ b .settings .invert
+    ∷ b .settings .«fsafe_type»
+    ∷ b .settings .«fsafe_val_d»
+    ∷ b .state .out .value
+    ∷ b .state .out .status
+    ∷ b .state .mode
+    ∷ flag (b .state .last .some)
+    ∷ b .state .last .value
+    ∷ b .state .operator .value
+    ∷ b .state .operator .status
+    ∷ b .«st_rev»
+    ∷ []
+
+unfoldable pub doutWords : DoutBlock → List ℕ
+doutWords b =
+    b .settings .target
+    ∷ b .settings .invert
+    ∷ b .settings .«fsafe_type»
+    ∷ b .settings .«fsafe_val_d»
+    ∷ b .settings .«fsafe_time»
+    ∷ b .state .out .value
+    ∷ b .state .out .status
+    ∷ b .state .mode
+    ∷ b .state .operator .value
+    ∷ b .state .operator .status
+    ∷ flag (b .state .sp .some)
+    ∷ b .state .sp .value
+    ∷ b .state .sp .silence
+    ∷ flag (b .state .sp .ifs)
+    ∷ flag (b .state .«rcas_in» .some)
+    ∷ b .state .«rcas_in» .value
+    ∷ b .state .«rcas_in» .silence
+    ∷ flag (b .state .«rcas_in» .ifs)
+    ∷ b .«st_rev»
+    ∷ []
+
 -- the layout's version and WRITE_LOCKING
 abbrev pub firstWords : ℕ → List ℕ
-firstWords lock = 2 ∷ lock ∷ []
+firstWords lock = 3 ∷ lock ∷ []
 
--- 110 words
+-- 141 words
 unfoldable pub wordsOf : Device → List ℕ
-wordsOf d = firstWords (d .«write_locking») ++ ainWords (d .ain) ++ tableWords (d .ain .table) ++ totWords (d .tot) ++ aoWords (d .ao)
+wordsOf d =
+    firstWords (d .«write_locking») ++ ainWords (d .ain) ++ tableWords (d .ain .table) ++ totWords (d .tot) ++ aoWords (d .ao) ++ diWords (d .di)
+    ++ doutWords (d .dout)
 
 -- each has 32 bits
 abbrev pub Small : List ℕ → Type 0
@@ -166,14 +217,23 @@ module _ (ws : List ℕ) where
   abbrev pub pair : ℕ → Pair
   pair at = record { bits = word at; status = byte (at + 1) }
 
+  abbrev pub discrete : ℕ → Discrete
+  discrete at = record { value = byte at; status = byte (at + 1) }
+
   abbrev pub kept : ℕ → Kept
   kept at = record { some = isSet at; value = float (at + 1) }
+
+  abbrev pub keptD : ℕ → KeptD
+  keptD at = record { some = isSet at; value = byte (at + 1) }
 
   abbrev pub alarms : ℕ → Alarms
   alarms at = record { «hi_hi» = isSet at; hi = isSet (at + 1); lo = isSet (at + 2); «lo_lo» = isSet (at + 3) }
 
   abbrev pub input : ℕ → Input
   input at = record { some = isSet at; value = float (at + 1); silence = word (at + 2); ifs = isSet (at + 3) }
+
+  abbrev pub inputD : ℕ → InputD
+  inputD at = record { some = isSet at; value = byte (at + 1); silence = word (at + 2); ifs = isSet (at + 3) }
 
   abbrev pub total : ℕ → ℤ
   total at = ofTwos (word at * 2 ^ 32 + word (at + 1))
@@ -263,6 +323,36 @@ module _ (ws : List ℕ) where
   unfoldable pub aoOf : ℕ → AoBlock
   aoOf at = record { settings = aoSettings at; state = aoState (at + 9); «st_rev» = half (at + 22) }
 
-  -- AIN has 71 words from the third on, TOT then 14, AO 23
+  unfoldable pub diSettings : ℕ → DiSettings
+  diSettings at = record { target = word at; invert = word (at + 1); «fsafe_type» = word (at + 2); «fsafe_val_d» = word (at + 3) }
+
+  unfoldable pub diState : ℕ → DiState
+  diState at = record { out = discrete at; mode = word (at + 2); last = keptD (at + 3); operator = discrete (at + 5) }
+
+  unfoldable pub diOf : ℕ → DiBlock
+  diOf at = record { settings = diSettings at; state = diState (at + 4); «st_rev» = half (at + 11) }
+
+  unfoldable pub doutSettings : ℕ → DoutSettings
+  doutSettings at = record {
+    target = word at;
+    invert = word (at + 1);
+    «fsafe_type» = word (at + 2);
+    «fsafe_val_d» = word (at + 3);
+    «fsafe_time» = word (at + 4);
+  }
+
+  unfoldable pub doutState : ℕ → DoutState
+  doutState at = record {
+    out = discrete at;
+    mode = word (at + 2);
+    operator = discrete (at + 3);
+    sp = inputD (at + 5);
+    «rcas_in» = inputD (at + 9);
+  }
+
+  unfoldable pub doutOf : ℕ → DoutBlock
+  doutOf at = record { settings = doutSettings at; state = doutState (at + 5); «st_rev» = half (at + 18) }
+
+  -- AIN has 71 words from the third on, TOT then 14, AO 23, DI 12, DO 19
   unfoldable pub deviceOf : Device
-  deviceOf = record { «write_locking» = word 1; ain = ainOf 2; tot = totOf 73; ao = aoOf 87 }
+  deviceOf = record { «write_locking» = word 1; ain = ainOf 2; tot = totOf 73; ao = aoOf 87; di = diOf 110; dout = doutOf 122 }

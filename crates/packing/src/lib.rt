@@ -1,13 +1,14 @@
-// The device as bytes, to be stored over a loss of power or moved to another machine: 110 words of 32 bits, highest
-// byte first. The first is the layout's version, 2; then every field of the device in the order of its struct, a word
+// The device as bytes, to be stored over a loss of power or moved to another machine: 141 words of 32 bits, highest
+// byte first. The first is the layout's version, 3; then every field of the device in the order of its struct, a word
 // each: numbers as they are, flags as 1 or 0, floats by their bits with 0x7FC00000 for a NaN. The total has two words,
 // two's complement, the higher first. The linearisation table has 43: its count, then x and y of each of its 21 places.
 ghost use mathlib.Core.Path.{_≡_};
 ghost use Prim.Native.Nat.{_+_, _*_, _≤_};
 ghost use lib.ListN.{length};
 ghost use Rattle.wire.specs.Bytes.{wordBytes, replaced};
-ghost use Rattle.packing.specs.Words.{twos, ofTwos, ainWords, tableWords, totWords, aoWords, firstWords, Small, deviceOf};
+ghost use Rattle.packing.specs.Words.{twos, ofTwos, ainWords, tableWords, totWords, aoWords, diWords, doutWords, firstWords, Small, deviceOf};
 ghost use Rattle.packing.specs.Words.{ainSettings, ainState, ainOf, totSettings, totState, totOf, aoSettings, aoState, aoOf};
+ghost use Rattle.packing.specs.Words.{diSettings, diState, diOf, doutSettings, doutState, doutOf};
 ghost use Rattle.packing.specs.Words as Words;
 ghost use Rattle.packing.specs.Packed.{bytesOf, packedOf, packAnswer, packBytes, wordsIn, accepted, refusedBy, unpackedOf};
 use ain::Alarms;
@@ -16,6 +17,8 @@ use blocks::Kept;
 use device::AinBlock;
 use device::AoBlock;
 use device::Device;
+use device::DiBlock;
+use device::DoutBlock;
 use device::TotBlock;
 use linearisation::Point;
 use linearisation::Table;
@@ -23,11 +26,12 @@ use numbers::floats::bits_of;
 use numbers::floats::float_of;
 use scaling::Scale;
 use wire::Answer;
+use wire::Discrete;
 use wire::Pair;
 use wire::Refusal;
 
 // The bytes of a packed device.
-pub const PACKED: usize = 440;
+pub const PACKED: usize = 564;
 
 // What bytes are unpacked to. The answer is 0 where they are a device, else the refusal's number: 7 for another length
 // than PACKED, 255 for bytes that no device packs to. Of a refusal the device is the factory's.
@@ -63,7 +67,7 @@ fn first_words(lock: u32) -> [u32; 2]
     ensures { λ r. ⌜ r ≡ firstWords lock ⌝ }
     ensures { λ _. ⌜ Small (firstWords lock) ⌝ }
 {
-    [2, lock]
+    [3, lock]
 }
 
 // AIN but for its table.
@@ -176,6 +180,53 @@ fn ao_words(b: AoBlock) -> [u32; 23]
     ]
 }
 
+fn di_words(b: DiBlock) -> [u32; 12]
+    ensures { λ r. ⌜ r ≡ diWords b ⌝ }
+    ensures { λ _. ⌜ Small (diWords b) × (diOf (diWords b) 0 ≡ b) ⌝ }
+{
+    [
+        b.settings.target,
+        b.settings.invert,
+        b.settings.fsafe_type,
+        b.settings.fsafe_val_d,
+        b.state.out.value as u32,
+        b.state.out.status as u32,
+        b.state.mode,
+        flag(b.state.last.some),
+        b.state.last.value as u32,
+        b.state.operator.value as u32,
+        b.state.operator.status as u32,
+        b.st_rev as u32,
+    ]
+}
+
+fn dout_words(b: DoutBlock) -> [u32; 19]
+    ensures { λ r. ⌜ r ≡ doutWords b ⌝ }
+    ensures { λ _. ⌜ Small (doutWords b) × (doutOf (doutWords b) 0 ≡ b) ⌝ }
+{
+    [
+        b.settings.target,
+        b.settings.invert,
+        b.settings.fsafe_type,
+        b.settings.fsafe_val_d,
+        b.settings.fsafe_time,
+        b.state.out.value as u32,
+        b.state.out.status as u32,
+        b.state.mode,
+        b.state.operator.value as u32,
+        b.state.operator.status as u32,
+        flag(b.state.sp.some),
+        b.state.sp.value as u32,
+        b.state.sp.silence,
+        flag(b.state.sp.ifs),
+        flag(b.state.rcas_in.some),
+        b.state.rcas_in.value as u32,
+        b.state.rcas_in.silence,
+        flag(b.state.rcas_in.ifs),
+        b.st_rev as u32,
+    ]
+}
+
 // ---- words into a buffer
 
 fn put_word(buf: &mut [u8], at: usize, word: u32)
@@ -268,6 +319,18 @@ fn pair_at(s: &[u8], i: usize) -> Pair
     }
 }
 
+fn discrete_at(s: &[u8], i: usize) -> Discrete
+    requires { ⌜ 4 * i + 8 ≤ length (now s) ⌝ }
+    ensures { λ r. ⌜ r ≡ Words.discrete (wordsIn (now (s .entry))) i ⌝ }
+{
+    let value = byte_at(s, i);
+    let status = byte_at(s, i + 1);
+    Discrete {
+        value: value,
+        status: status,
+    }
+}
+
 fn kept_at(s: &[u8], i: usize) -> Kept
     requires { ⌜ 4 * i + 8 ≤ length (now s) ⌝ }
     ensures { λ r. ⌜ r ≡ Words.kept (wordsIn (now (s .entry))) i ⌝ }
@@ -275,6 +338,18 @@ fn kept_at(s: &[u8], i: usize) -> Kept
     let some = flag_at(s, i);
     let value = float_at(s, i + 1);
     Kept {
+        some: some,
+        value: value,
+    }
+}
+
+fn kept_d_at(s: &[u8], i: usize) -> di::Kept
+    requires { ⌜ 4 * i + 8 ≤ length (now s) ⌝ }
+    ensures { λ r. ⌜ r ≡ Words.keptD (wordsIn (now (s .entry))) i ⌝ }
+{
+    let some = flag_at(s, i);
+    let value = byte_at(s, i + 1);
+    di::Kept {
         some: some,
         value: value,
     }
@@ -305,6 +380,22 @@ fn input_at(s: &[u8], i: usize) -> Input
     let silence = word_at(s, i + 2);
     let ifs = flag_at(s, i + 3);
     Input {
+        some: some,
+        value: value,
+        silence: silence,
+        ifs: ifs,
+    }
+}
+
+fn input_d_at(s: &[u8], i: usize) -> dout::Input
+    requires { ⌜ 4 * i + 16 ≤ length (now s) ⌝ }
+    ensures { λ r. ⌜ r ≡ Words.inputD (wordsIn (now (s .entry))) i ⌝ }
+{
+    let some = flag_at(s, i);
+    let value = byte_at(s, i + 1);
+    let silence = word_at(s, i + 2);
+    let ifs = flag_at(s, i + 3);
+    dout::Input {
         some: some,
         value: value,
         silence: silence,
@@ -541,19 +632,119 @@ fn ao_at(s: &[u8], i: usize) -> AoBlock
     }
 }
 
+fn di_settings_at(s: &[u8], i: usize) -> di::Settings
+    requires { ⌜ 4 * i + 16 ≤ length (now s) ⌝ }
+    ensures { λ r. ⌜ r ≡ diSettings (wordsIn (now (s .entry))) i ⌝ }
+{
+    let target = word_at(s, i);
+    let invert = word_at(s, i + 1);
+    let fsafe_type = word_at(s, i + 2);
+    let fsafe_val_d = word_at(s, i + 3);
+    di::Settings {
+        target: target,
+        invert: invert,
+        fsafe_type: fsafe_type,
+        fsafe_val_d: fsafe_val_d,
+    }
+}
+
+fn di_state_at(s: &[u8], i: usize) -> di::State
+    requires { ⌜ 4 * i + 28 ≤ length (now s) ⌝ }
+    ensures { λ r. ⌜ r ≡ diState (wordsIn (now (s .entry))) i ⌝ }
+{
+    let out = discrete_at(s, i);
+    let mode = word_at(s, i + 2);
+    let last = kept_d_at(s, i + 3);
+    let operator = discrete_at(s, i + 5);
+    di::State {
+        out: out,
+        mode: mode,
+        last: last,
+        operator: operator,
+    }
+}
+
+fn di_at(s: &[u8], i: usize) -> DiBlock
+    requires { ⌜ 4 * i + 48 ≤ length (now s) ⌝ }
+    ensures { λ r. ⌜ r ≡ diOf (wordsIn (now (s .entry))) i ⌝ }
+{
+    let settings = di_settings_at(s, i);
+    let state = di_state_at(s, i + 4);
+    let st_rev = half_at(s, i + 11);
+    DiBlock {
+        settings: settings,
+        state: state,
+        st_rev: st_rev,
+    }
+}
+
+fn dout_settings_at(s: &[u8], i: usize) -> dout::Settings
+    requires { ⌜ 4 * i + 20 ≤ length (now s) ⌝ }
+    ensures { λ r. ⌜ r ≡ doutSettings (wordsIn (now (s .entry))) i ⌝ }
+{
+    let target = word_at(s, i);
+    let invert = word_at(s, i + 1);
+    let fsafe_type = word_at(s, i + 2);
+    let fsafe_val_d = word_at(s, i + 3);
+    let fsafe_time = word_at(s, i + 4);
+    dout::Settings {
+        target: target,
+        invert: invert,
+        fsafe_type: fsafe_type,
+        fsafe_val_d: fsafe_val_d,
+        fsafe_time: fsafe_time,
+    }
+}
+
+fn dout_state_at(s: &[u8], i: usize) -> dout::State
+    requires { ⌜ 4 * i + 52 ≤ length (now s) ⌝ }
+    ensures { λ r. ⌜ r ≡ doutState (wordsIn (now (s .entry))) i ⌝ }
+{
+    let out = discrete_at(s, i);
+    let mode = word_at(s, i + 2);
+    let operator = discrete_at(s, i + 3);
+    let sp = input_d_at(s, i + 5);
+    let rcas_in = input_d_at(s, i + 9);
+    dout::State {
+        out: out,
+        mode: mode,
+        operator: operator,
+        sp: sp,
+        rcas_in: rcas_in,
+    }
+}
+
+fn dout_at(s: &[u8], i: usize) -> DoutBlock
+    requires { ⌜ 4 * i + 76 ≤ length (now s) ⌝ }
+    ensures { λ r. ⌜ r ≡ doutOf (wordsIn (now (s .entry))) i ⌝ }
+{
+    let settings = dout_settings_at(s, i);
+    let state = dout_state_at(s, i + 5);
+    let st_rev = half_at(s, i + 18);
+    DoutBlock {
+        settings: settings,
+        state: state,
+        st_rev: st_rev,
+    }
+}
+
 fn device_at(s: &[u8]) -> Device
-    requires { ⌜ 440 ≤ length (now s) ⌝ }
+    requires { ⌜ 564 ≤ length (now s) ⌝ }
     ensures { λ r. ⌜ r ≡ deviceOf (wordsIn (now (s .entry))) ⌝ }
 {
     let write_locking = word_at(s, 1);
     let ain = ain_at(s, 2);
     let tot = tot_at(s, 73);
     let ao = ao_at(s, 87);
+    let di = di_at(s, 110);
+    let dout = dout_at(s, 122);
     Device {
         write_locking: write_locking,
         ain: ain,
         tot: tot,
         ao: ao,
+        di: di,
+        dout: dout,
     }
 }
 
@@ -571,6 +762,8 @@ pub fn pack(d: Device, buf: &mut [u8]) -> Answer
     let table = table_words(d.ain.table);
     let tot = tot_words(d.tot);
     let ao = ao_words(d.ao);
+    let di = di_words(d.di);
+    let dout = dout_words(d.dout);
     if room < PACKED {
         return Answer::Refused(Refusal::WrongLength);
     }
@@ -579,6 +772,8 @@ pub fn pack(d: Device, buf: &mut [u8]) -> Answer
     put_words(buf, 120, &table);
     put_words(buf, 292, &tot);
     put_words(buf, 348, &ao);
+    put_words(buf, 440, &di);
+    put_words(buf, 488, &dout);
     Answer::Accepted
 }
 

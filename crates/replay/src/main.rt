@@ -16,6 +16,7 @@ use script::Answer;
 use script::Command;
 use summary::Counts;
 use summary::Fails;
+use wire::Discrete;
 use wire::Pair;
 use wire::Refusal;
 
@@ -66,11 +67,19 @@ fn answer_of(answer: wire::Answer) -> Answer {
     }
 }
 
-fn order_of(order: Order) -> Answer {
+fn order_of(order: Order) -> script::Order {
     match order {
-        Order::Position(x) => Answer::Position(numbers::floats::bits_of(x)),
-        Order::Safe => Answer::Safe,
-        Order::Rest => Answer::Rest,
+        Order::Position(x) => script::Order::Position(numbers::floats::bits_of(x)),
+        Order::Safe => script::Order::Safe,
+        Order::Rest => script::Order::Rest,
+    }
+}
+
+fn order_d_of(order: dout::Order) -> script::Order {
+    match order {
+        dout::Order::Position(value) => script::Order::PositionD(value),
+        dout::Order::Safe => script::Order::Safe,
+        dout::Order::Rest => script::Order::Rest,
     }
 }
 
@@ -87,12 +96,23 @@ fn answered(call: Answered, out: &mut [u8], at: usize) -> Done {
     reply(call.device, shown, out, at)
 }
 
-fn tick(d: Device, fault: bool, ain: Pair, tot: Pair, out: &mut [u8], at: usize) -> Done {
-    let ticked = device::tick(d, fault, ain, tot);
+// What a tick is fed.
+struct Fed {
+    ain: Pair,
+    tot: Pair,
+    di: Discrete,
+}
+
+fn tick(d: Device, fault: bool, fed: Fed, out: &mut [u8], at: usize) -> Done {
+    let ain = fed.ain;
+    let di = fed.di;
+    let ticked = device::tick(d, fault, ain, fed.tot, di);
     let order = ticked.order;
-    let shown = order_of(order);
-    let mut next = reply(ticked.device, shown, out, at);
-    next.fails = summary::failing(d, fault, ain);
+    let order_d = ticked.order_d;
+    let valve = order_of(order);
+    let sluice = order_d_of(order_d);
+    let mut next = reply(ticked.device, Answer::Orders(valve, sluice), out, at);
+    next.fails = summary::failing(d, fault, ain, di);
     next
 }
 
@@ -243,6 +263,8 @@ fn run(d: Device, line: &[u8], out: &mut [u8], at: usize) -> Done {
             ain_status,
             tot_bits,
             tot_status,
+            di_value,
+            di_status,
         } => {
             let ain = Pair {
                 bits: ain_bits,
@@ -252,7 +274,11 @@ fn run(d: Device, line: &[u8], out: &mut [u8], at: usize) -> Done {
                 bits: tot_bits,
                 status: tot_status,
             };
-            tick(d, fault, ain, tot, out, at)
+            let di = Discrete {
+                value: di_value,
+                status: di_status,
+            };
+            tick(d, fault, Fed { ain, tot, di }, out, at)
         }
         Command::Telegram { input, length } => send(d, To::Input(input), line, length, out, at),
         Command::Write {
@@ -392,6 +418,17 @@ fn held(line: &mut [u8], length: usize, bytes: &[u8]) -> usize
     length + n
 }
 
+// Adds the part of a chunk that belongs to one line; where 0x0A ends it there, the line's call is made.
+fn line_of(s: State, chunk: &[u8], from: usize, end: usize, line: &mut [u8], out: &mut [u8]) -> State
+    requires { ⌜ (from ≤ end) × (end ≤ length (now chunk)) × (s .length ≤ length (now line)) ⌝ }
+    ensures { λ r. ⌜ r .length ≤ length (now (line .entry)) ⌝ }
+{
+    let length = held(line, s.length, &chunk[from..end]);
+    let mut next = s;
+    next.length = length;
+    line_ended_if(end < chunk.len(), next, line, out)
+}
+
 // The lines of a chunk of input. What follows its last 0x0A is held.
 fn lines_of(s: State, chunk: &[u8], line: &mut [u8], out: &mut [u8]) -> State
     requires { ⌜ s .length ≤ length (now line) ⌝ }
@@ -401,9 +438,7 @@ fn lines_of(s: State, chunk: &[u8], line: &mut [u8], out: &mut [u8]) -> State
     let mut from = 0;
     while from < chunk.len() {
         let end = line_end(chunk, from);
-        let length = held(line, state.length, &chunk[from..end]);
-        state.length = length;
-        state = line_ended_if(end < chunk.len(), state, line, out);
+        state = line_of(state, chunk, from, end, line, out);
         from = end + 1;
     }
     state

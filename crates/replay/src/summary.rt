@@ -5,6 +5,7 @@ use ao::Order;
 use device::Device;
 use libc::STDERR_FILENO;
 use script::Answer;
+use wire::Discrete;
 use wire::Pair;
 
 // Refusals are numbered from 1 on; a larger number than the array has places for would be counted in its place 0.
@@ -25,9 +26,11 @@ pub struct Counts {
     pub hi: u64,
     pub lo: u64,
     pub lo_lo: u64,
-    // Ticks in which AIN, and AO, were in fail-safe.
+    // Ticks in which each block was in fail-safe.
     pub ain: u64,
     pub ao: u64,
+    pub di: u64,
+    pub dout: u64,
 }
 
 pub fn nothing() -> Counts {
@@ -47,6 +50,8 @@ pub fn nothing() -> Counts {
         lo_lo: 0,
         ain: 0,
         ao: 0,
+        di: 0,
+        dout: 0,
     }
 }
 
@@ -79,23 +84,54 @@ fn ao_fails(d: Device, fault: bool) -> bool {
     }
 }
 
+// DI and DO, in the same way.
+fn di_fails(d: Device, fault: bool, input: Discrete) -> bool {
+    let block = d.di;
+    let mut settings = block.settings;
+    settings.fsafe_type = 2;
+    let state = block.state;
+    let next = di::tick(settings, state, fault, input.value, input.status);
+    let auto = next.mode == blocks::AUTO;
+    let bad = wire::quality(next.out.status) == 0;
+    auto & bad
+}
+
+fn dout_fails(d: Device, fault: bool) -> bool {
+    let block = d.dout;
+    let mut settings = block.settings;
+    settings.fsafe_type = 2;
+    let state = block.state;
+    let next = dout::tick(settings, state, fault);
+    let order = next.order;
+    match order {
+        dout::Order::Safe => true,
+        _ => false,
+    }
+}
+
 // Which blocks go by their fail-safe in a tick.
 pub struct Fails {
     pub ain: bool,
     pub ao: bool,
+    pub di: bool,
+    pub dout: bool,
 }
 
 pub fn none() -> Fails {
     Fails {
         ain: false,
         ao: false,
+        di: false,
+        dout: false,
     }
 }
 
-pub fn failing(d: Device, fault: bool, input: Pair) -> Fails {
+pub fn failing(d: Device, fault: bool, ain: Pair, di: Discrete) -> Fails {
     Fails {
-        ain: ain_fails(d, fault, input),
+        ain: ain_fails(d, fault, ain),
         ao: ao_fails(d, fault),
+        di: di_fails(d, fault, di),
+        dout: dout_fails(d, fault),
     }
 }
 
@@ -127,6 +163,8 @@ fn ticked(c: Counts, old: Alarms, new: Alarms, fails: Fails) -> Counts {
     next.lo_lo = more(c.lo_lo, new.lo_lo & !old.lo_lo);
     next.ain = more(c.ain, fails.ain);
     next.ao = more(c.ao, fails.ao);
+    next.di = more(c.di, fails.di);
+    next.dout = more(c.dout, fails.dout);
     next
 }
 
@@ -181,9 +219,7 @@ pub fn counted(
     match answer {
         Answer::Error => mistaken(next, carriage_return),
         Answer::Refused(number) => refused(next, number),
-        Answer::Position(bits) => ticked(next, old, new, fails),
-        Answer::Safe => ticked(next, old, new, fails),
-        Answer::Rest => ticked(next, old, new, fails),
+        Answer::Orders(_, _) => ticked(next, old, new, fails),
         _ => next,
     }
 }
@@ -265,5 +301,7 @@ pub fn tell(c: Counts) {
     number(b", LO_LO ", c.lo_lo);
     number(b"\nsummary: ticks in fail-safe: AIN ", c.ain);
     number(b", AO ", c.ao);
+    number(b", DI ", c.di);
+    number(b", DO ", c.dout);
     say(b"\n");
 }

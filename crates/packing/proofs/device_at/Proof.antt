@@ -6,8 +6,16 @@ use Rattle.packing.proofs.device_at.Tie as tie
 
 returns : tie.Need-returns
 unfolding deviceOf
-returns c = rw (c .ao-at .ensures, c .before .tot-at .ensures, c .before .before .ain-at .ensures, c .before .before .before .word-at .ensures)
+returns c = rw (c .dout-at .ensures, c .before .di-at .ensures, c .before .before .ao-at .ensures, c .before .before .before .tot-at .ensures, c .before .before .before .before .ain-at .ensures, c .before .before .before .before .before .word-at .ensures)
 
 pub device-at-spec : {M : Type 1} → statement M
 device-at-spec =
-    tie.close (tie.spec (λ c κs. search needs) (λ c κs. search needs) (λ c κs. search needs) (λ c κs. search needs) returns)
+    tie.close
+    (tie.spec
+    (λ c κs. search needs)
+    (λ c κs. search needs)
+    (λ c κs. search needs)
+    (λ c κs. search needs)
+    (λ c κs. search needs)
+    (λ c κs. search needs)
+    returns)

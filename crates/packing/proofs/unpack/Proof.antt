@@ -25,17 +25,17 @@ returns c =
 returns-2 : tie.Need-returns-2
 returns-2 c =
     let s = now (c .before .before .before .before .before .before .before .before .before .args .bytes) in
-    let l : length s ≡ 440 = c .before .before .before .before .before .before .before .if1 .left in
+    let l : length s ≡ 564 = c .before .before .before .before .before .before .before .if1 .left in
     let d = c .before .before .before .before .before .before .device-at .ensures in
-    let p = c .before .before .before .before .pack .ensures .1 .0 ∙ pack-exact (replicate 440 0) (c .before .before .before .before .before .before .device-at .result) refl in
+    let p = c .before .before .before .before .pack .ensures .1 .0 ∙ pack-exact (replicate 564 0) (c .before .before .before .before .before .before .device-at .result) refl in
     said s _ (ap accepted d ∙ sym (unpack-yes s l (c .before .same .ensures .0 (c .if2 .taken) ∙ p ∙ ap packedOf d)))
 
 returns-3 : tie.Need-returns-3
 returns-3 c =
     let s = now (c .before .before .before .before .before .before .before .before .before .before .args .bytes) in
-    let l : length s ≡ 440 = c .before .before .before .before .before .before .before .before .if1 .left in
+    let l : length s ≡ 564 = c .before .before .before .before .before .before .before .before .if1 .left in
     let d = c .before .before .before .before .before .before .before .device-at .ensures in
-    let p = c .before .before .before .before .before .pack .ensures .1 .0 ∙ pack-exact (replicate 440 0) (c .before .before .before .before .before .before .before .device-at .result) refl in
+    let p = c .before .before .before .before .before .pack .ensures .1 .0 ∙ pack-exact (replicate 564 0) (c .before .before .before .before .before .before .before .device-at .result) refl in
     let other : s ≡ packedOf (deviceOf (wordsIn s)) → ⊥ = λ q. true≢false (sym (c .before .before .same .ensures .1 (q ∙ ap packedOf (sym d) ∙ sym p)) ∙ c .before .if2 .left) in
     said s _ (c .refused2 .ensures ∙ sym (unpack-no s l other))
 

@@ -19,23 +19,11 @@ loop-holds c = (refl, refl, omega arith)
 line-end-requires : tie.Need-line-end-requires Inv-loop μ-loop
 line-end-requires c κs = omega arith
 
-sub-held : tie.Need-sub-held Inv-loop μ-loop
-sub-held c = omega arith
-
-part-held-start : tie.Need-part-held-start Inv-loop μ-loop
-part-held-start c = omega arith
-
-part-held-end : tie.Need-part-held-end Inv-loop μ-loop
-part-held-end c = omega arith
-
-held-requires : tie.Need-held-requires Inv-loop μ-loop
-held-requires c κs = omega arith
-
-line-ended-if-requires : tie.Need-line-ended-if-requires Inv-loop μ-loop
-line-ended-if-requires c κs = omega arith
+line-of-requires : tie.Need-line-of-requires Inv-loop μ-loop
+line-of-requires c κs = (omega arith, omega arith, omega arith)
 
 add-from : tie.Need-add-from Inv-loop μ-loop
-add-from c = omega (arith, c .before .before .before .before .before .before .before .before .before .before .before .before .before .before .before .before .good .1 .0 .1)
+add-from c = omega (arith, c .before .before .before .before .before .before .before .before .before .before .before .before .before .good .1 .0 .1)
 
 loop-less : tie.Need-loop-less Inv-loop μ-loop
 loop-less c = omega arith
@@ -60,11 +48,7 @@ lines-of-spec =
     μ-loop
     loop-holds
     line-end-requires
-    sub-held
-    part-held-start
-    part-held-end
-    held-requires
-    line-ended-if-requires
+    line-of-requires
     add-from
     loop-less
     loop-again
