@@ -1,4 +1,4 @@
-/* The intake head's function blocks AIN, TOT and AO for C11 and C++17: the calls of libcapi.a. docs/embedding.md says how
+/* The intake head's function blocks AIN, TOT, AO, DI and DO for C11 and C++17: the calls of libcapi.a. docs/embedding.md says how
  * to link it, what a call costs and how a device outlives a loss of power; docs/parameters.md has every parameter.
  *
  * A device is a plain struct that the caller holds; it starts as what serkoviu_factory gives. It has no pointer in it and
@@ -33,15 +33,17 @@ extern "C" {
 
 /* Version of this header: major, minor and patch in a byte each; each request that landed raised it. serkoviu_version gives
  * that of the archive. */
-#define SERKOVIU_VERSION 0x00010200
+#define SERKOVIU_VERSION 0x00020000
 /* The form of a packed device; it stands in its first four bytes. */
-#define SERKOVIU_LAYOUT_VERSION 2
+#define SERKOVIU_LAYOUT_VERSION 3
 
 /* Blocks. */
 #define SERKOVIU_PHYSICAL 0
 #define SERKOVIU_AIN 1
 #define SERKOVIU_TOT 2
 #define SERKOVIU_AO 3
+#define SERKOVIU_DI 4
+#define SERKOVIU_DO 5
 
 /* Parameters of the physical block. */
 #define SERKOVIU_PHYSICAL_WRITE_LOCKING 18
@@ -86,11 +88,30 @@ extern "C" {
 #define SERKOVIU_AO_OUT 37
 #define SERKOVIU_AO_OUT_SCALE 38
 
+/* Parameters of DI. */
+#define SERKOVIU_DI_ST_REV 1
+#define SERKOVIU_DI_TARGET_MODE 5
+#define SERKOVIU_DI_ACTUAL_MODE 6
+#define SERKOVIU_DI_OUT_D 10
+#define SERKOVIU_DI_INVERT 15
+#define SERKOVIU_DI_FSAFE_TYPE 20
+#define SERKOVIU_DI_FSAFE_VAL_D 21
+
+/* Parameters of DO. */
+#define SERKOVIU_DO_ST_REV 1
+#define SERKOVIU_DO_TARGET_MODE 5
+#define SERKOVIU_DO_ACTUAL_MODE 6
+#define SERKOVIU_DO_OUT_D 10
+#define SERKOVIU_DO_INVERT 15
+#define SERKOVIU_DO_FSAFE_TYPE 20
+#define SERKOVIU_DO_FSAFE_VAL_D 21
+#define SERKOVIU_DO_FSAFE_TIME 22
+
 /* Words of WRITE_LOCKING. */
 #define SERKOVIU_WRITE_LOCKING_ON 0
 #define SERKOVIU_WRITE_LOCKING_OFF 2457
 
-/* Words of TARGET_MODE and ACTUAL_MODE; RCas in AO alone. */
+/* Words of TARGET_MODE and ACTUAL_MODE; RCas in AO and DO alone. */
 #define SERKOVIU_MODE_OS 0x80
 #define SERKOVIU_MODE_MAN 0x10
 #define SERKOVIU_MODE_AUTO 0x08
@@ -101,8 +122,8 @@ extern "C" {
 #define SERKOVIU_LIN_TYPE_NONE 0
 #define SERKOVIU_LIN_TYPE_TABLE 1
 
-/* Words of FSAFE_TYPE: FSAFE_VALUE, the last usable value; then in AIN the value as it comes, and in AO the drive order
- * Safe. */
+/* Words of FSAFE_TYPE: FSAFE_VALUE or FSAFE_VAL_D, the last usable value; then in AIN and DI the value as it comes, and in
+ * AO and DO the drive order Safe. */
 #define SERKOVIU_FSAFE_TYPE_VALUE 0
 #define SERKOVIU_FSAFE_TYPE_LAST 1
 #define SERKOVIU_FSAFE_TYPE_BAD_VALUE 2
@@ -127,6 +148,10 @@ extern "C" {
 /* Words of INCREASE_CLOSE: OUT rises, or falls, with the setpoint. */
 #define SERKOVIU_INCREASE_CLOSE_RISING 0
 #define SERKOVIU_INCREASE_CLOSE_FALLING 1
+
+/* Words of INVERT: a discrete value as it is, or 0 and 1 exchanged. */
+#define SERKOVIU_INVERT_OFF 0
+#define SERKOVIU_INVERT_ON 1
 
 /* Bits of ALARMS. */
 #define SERKOVIU_ALARM_HI_HI 0x01
@@ -186,14 +211,17 @@ extern "C" {
 #define SERKOVIU_SAFE 1
 #define SERKOVIU_REST 2
 
-/* Setpoint inputs. */
+/* Setpoint inputs: AO's, and DO's. */
 #define SERKOVIU_SP 0
 #define SERKOVIU_RCAS_IN 1
+#define SERKOVIU_SP_D 2
+#define SERKOVIU_RCAS_IN_D 3
 
-/* Lengths of a telegram, of a bus image and of a packed device. */
+/* Lengths of a telegram to AO and to DO, of a bus image and of a packed device. */
 #define SERKOVIU_TELEGRAM_BYTES 5
-#define SERKOVIU_IMAGE_BYTES 15
-#define SERKOVIU_PACKED_BYTES 440
+#define SERKOVIU_TELEGRAM_D_BYTES 2
+#define SERKOVIU_IMAGE_BYTES 19
+#define SERKOVIU_PACKED_BYTES 564
 
 /* A linearisation table: the bytes of a pair, and how many pairs there are. */
 #define SERKOVIU_TABLE_PAIR_BYTES 8
@@ -205,6 +233,12 @@ typedef struct serkoviu_pair {
     uint32_t bits;
     uint8_t status;
 } serkoviu_pair;
+
+/* A discrete value, 0 or 1, and its status. */
+typedef struct serkoviu_discrete {
+    uint8_t value;
+    uint8_t status;
+} serkoviu_discrete;
 
 /* Both ends of a scale. */
 typedef struct serkoviu_scale {
@@ -311,6 +345,54 @@ typedef struct serkoviu_ao_state {
     serkoviu_ao_input rcas_in;
 } serkoviu_ao_state;
 
+/* DI's stored parameters. */
+typedef struct serkoviu_di_settings {
+    uint32_t target;
+    uint32_t invert;
+    uint32_t fsafe_type;
+    uint32_t fsafe_val_d;
+} serkoviu_di_settings;
+
+/* A discrete value that may be missing; while it is, the value is 0. */
+typedef struct serkoviu_kept_d {
+    bool some;
+    uint8_t value;
+} serkoviu_kept_d;
+
+/* What DI's ticks change, and the operator's pair, which is as AIN's. */
+typedef struct serkoviu_di_state {
+    serkoviu_discrete out;
+    uint32_t mode;
+    serkoviu_kept_d last;
+    serkoviu_discrete operator_pair;
+} serkoviu_di_state;
+
+/* DO's stored parameters. */
+typedef struct serkoviu_do_settings {
+    uint32_t target;
+    uint32_t invert;
+    uint32_t fsafe_type;
+    uint32_t fsafe_val_d;
+    uint32_t fsafe_time;
+} serkoviu_do_settings;
+
+/* A setpoint input of DO, as AO's. */
+typedef struct serkoviu_do_input {
+    bool some;
+    uint8_t value;
+    uint32_t silence;
+    bool ifs;
+} serkoviu_do_input;
+
+/* What DO's ticks and telegrams change, and the operator's pair, which is as AIN's. */
+typedef struct serkoviu_do_state {
+    serkoviu_discrete out;
+    uint32_t mode;
+    serkoviu_discrete operator_pair;
+    serkoviu_do_input sp;
+    serkoviu_do_input rcas_in;
+} serkoviu_do_state;
+
 typedef struct serkoviu_ain_block {
     serkoviu_ain_settings settings;
     serkoviu_ain_state state;
@@ -330,12 +412,26 @@ typedef struct serkoviu_ao_block {
     uint16_t st_rev;
 } serkoviu_ao_block;
 
-/* A device. */
+typedef struct serkoviu_di_block {
+    serkoviu_di_settings settings;
+    serkoviu_di_state state;
+    uint16_t st_rev;
+} serkoviu_di_block;
+
+typedef struct serkoviu_do_block {
+    serkoviu_do_settings settings;
+    serkoviu_do_state state;
+    uint16_t st_rev;
+} serkoviu_do_block;
+
+/* A device; `do` is a keyword. */
 typedef struct serkoviu_device {
     uint32_t write_locking;
     serkoviu_ain_block ain;
     serkoviu_tot_block tot;
     serkoviu_ao_block ao;
+    serkoviu_di_block di;
+    serkoviu_do_block dout;
 } serkoviu_device;
 
 /* AO's drive order: a SERKOVIU_POSITION with its value, or another kind with the value 0. */
@@ -343,6 +439,18 @@ typedef struct serkoviu_order {
     uint8_t kind;
     float value;
 } serkoviu_order;
+
+/* DO's drive order, with a discrete value. */
+typedef struct serkoviu_order_d {
+    uint8_t kind;
+    uint8_t value;
+} serkoviu_order_d;
+
+/* The drive orders of a tick. */
+typedef struct serkoviu_orders {
+    serkoviu_order ao;
+    serkoviu_order_d dout;
+} serkoviu_orders;
 
 /* A read's answer and words; both words are 0 where it is refused. */
 typedef struct serkoviu_reading {
@@ -354,17 +462,20 @@ typedef struct serkoviu_reading {
 /* A fresh device. */
 serkoviu_device serkoviu_factory(void);
 
-/* A tick, every 0.1 s: the fault flag, and the transducers' pairs for AIN and TOT. Gives AO's drive order. */
-serkoviu_order serkoviu_tick(serkoviu_device *device, bool fault, serkoviu_pair ain, serkoviu_pair tot);
+/* A tick, every 0.1 s: the fault flag, and the transducers' pairs for AIN, TOT and DI. Another value for DI than 0 and 1 is
+ * Bad. Gives the drive orders of AO and DO. */
+serkoviu_orders serkoviu_tick(serkoviu_device *device, bool fault, serkoviu_pair ain, serkoviu_pair tot,
+                              serkoviu_discrete di);
 
 /* A telegram to SERKOVIU_SP or SERKOVIU_RCAS_IN: SERKOVIU_TELEGRAM_BYTES, the float from its highest byte on and
- * the status behind it. Refused: SERKOVIU_NO_SUCH_INPUT, then SERKOVIU_WRONG_LENGTH. */
+ * the status behind it; to SERKOVIU_SP_D or SERKOVIU_RCAS_IN_D: SERKOVIU_TELEGRAM_D_BYTES, the value and the status.
+ * Refused: SERKOVIU_NO_SUCH_INPUT, then SERKOVIU_WRONG_LENGTH. */
 uint8_t serkoviu_telegram(serkoviu_device *device, uint8_t input, const uint8_t *bytes, size_t length);
 
 /* Writes a parameter; floats are given by their bits, a one-word parameter has second word 0. Refused:
  * SERKOVIU_NO_SUCH_BLOCK to SERKOVIU_NOT_MAN, tested in the order of their numbers. A write that changes TARGET_MODE of
- * AIN or AO to SERKOVIU_MODE_MAN also takes OUT, value and status as last given, for the operator's pair, so that OUT
- * stands in Man; where TARGET_MODE is SERKOVIU_MODE_MAN already, the pair stays. */
+ * AIN, AO, DI or DO to SERKOVIU_MODE_MAN also takes OUT, value and status as last given, for the operator's pair, so that
+ * OUT stands in Man; where TARGET_MODE is SERKOVIU_MODE_MAN already, the pair stays. */
 uint8_t serkoviu_write(serkoviu_device *device, uint8_t block, uint8_t parameter, uint32_t first, uint32_t second);
 
 /* Loads AIN's linearisation table, SERKOVIU_TABLE_LEAST_PAIRS to SERKOVIU_TABLE_MOST_PAIRS pairs of
@@ -379,8 +490,8 @@ uint8_t serkoviu_warm_start(serkoviu_device *device);
 /* Reads a parameter. Refused: SERKOVIU_NO_SUCH_BLOCK, SERKOVIU_NO_SUCH_PARAMETER. */
 serkoviu_reading serkoviu_read(const serkoviu_device *device, uint8_t block, uint8_t parameter);
 
-/* Puts values and statuses of AIN, TOT and AO, five bytes each, into the front of a buffer. Refused:
- * SERKOVIU_WRONG_LENGTH, where it has less than SERKOVIU_IMAGE_BYTES. */
+/* Puts values and statuses of AIN, TOT and AO, five bytes each, and of DI and DO, two each, into the front of a buffer.
+ * Refused: SERKOVIU_WRONG_LENGTH, where it has less than SERKOVIU_IMAGE_BYTES. */
 uint8_t serkoviu_image(const serkoviu_device *device, uint8_t *buffer, size_t length);
 
 /* The total in thousandths, which serkoviu_read gives only cut. */
@@ -413,6 +524,9 @@ uint8_t serkoviu_unpack(serkoviu_device *device, const uint8_t *bytes, size_t le
 SERKOVIU_LAYOUT(serkoviu_pair, 8, 4);
 SERKOVIU_FIELD(serkoviu_pair, bits, 0);
 SERKOVIU_FIELD(serkoviu_pair, status, 4);
+SERKOVIU_LAYOUT(serkoviu_discrete, 2, 1);
+SERKOVIU_FIELD(serkoviu_discrete, value, 0);
+SERKOVIU_FIELD(serkoviu_discrete, status, 1);
 SERKOVIU_LAYOUT(serkoviu_scale, 8, 4);
 SERKOVIU_FIELD(serkoviu_scale, low, 0);
 SERKOVIU_FIELD(serkoviu_scale, high, 4);
@@ -481,6 +595,36 @@ SERKOVIU_FIELD(serkoviu_ao_state, mode, 8);
 SERKOVIU_FIELD(serkoviu_ao_state, operator_pair, 12);
 SERKOVIU_FIELD(serkoviu_ao_state, sp, 20);
 SERKOVIU_FIELD(serkoviu_ao_state, rcas_in, 36);
+SERKOVIU_LAYOUT(serkoviu_di_settings, 16, 4);
+SERKOVIU_FIELD(serkoviu_di_settings, target, 0);
+SERKOVIU_FIELD(serkoviu_di_settings, invert, 4);
+SERKOVIU_FIELD(serkoviu_di_settings, fsafe_type, 8);
+SERKOVIU_FIELD(serkoviu_di_settings, fsafe_val_d, 12);
+SERKOVIU_LAYOUT(serkoviu_kept_d, 2, 1);
+SERKOVIU_FIELD(serkoviu_kept_d, some, 0);
+SERKOVIU_FIELD(serkoviu_kept_d, value, 1);
+SERKOVIU_LAYOUT(serkoviu_di_state, 12, 4);
+SERKOVIU_FIELD(serkoviu_di_state, out, 0);
+SERKOVIU_FIELD(serkoviu_di_state, mode, 4);
+SERKOVIU_FIELD(serkoviu_di_state, last, 8);
+SERKOVIU_FIELD(serkoviu_di_state, operator_pair, 10);
+SERKOVIU_LAYOUT(serkoviu_do_settings, 20, 4);
+SERKOVIU_FIELD(serkoviu_do_settings, target, 0);
+SERKOVIU_FIELD(serkoviu_do_settings, invert, 4);
+SERKOVIU_FIELD(serkoviu_do_settings, fsafe_type, 8);
+SERKOVIU_FIELD(serkoviu_do_settings, fsafe_val_d, 12);
+SERKOVIU_FIELD(serkoviu_do_settings, fsafe_time, 16);
+SERKOVIU_LAYOUT(serkoviu_do_input, 12, 4);
+SERKOVIU_FIELD(serkoviu_do_input, some, 0);
+SERKOVIU_FIELD(serkoviu_do_input, value, 1);
+SERKOVIU_FIELD(serkoviu_do_input, silence, 4);
+SERKOVIU_FIELD(serkoviu_do_input, ifs, 8);
+SERKOVIU_LAYOUT(serkoviu_do_state, 36, 4);
+SERKOVIU_FIELD(serkoviu_do_state, out, 0);
+SERKOVIU_FIELD(serkoviu_do_state, mode, 4);
+SERKOVIU_FIELD(serkoviu_do_state, operator_pair, 8);
+SERKOVIU_FIELD(serkoviu_do_state, sp, 12);
+SERKOVIU_FIELD(serkoviu_do_state, rcas_in, 24);
 SERKOVIU_LAYOUT(serkoviu_ain_block, 272, 4);
 SERKOVIU_FIELD(serkoviu_ain_block, settings, 0);
 SERKOVIU_FIELD(serkoviu_ain_block, state, 56);
@@ -494,14 +638,30 @@ SERKOVIU_LAYOUT(serkoviu_ao_block, 92, 4);
 SERKOVIU_FIELD(serkoviu_ao_block, settings, 0);
 SERKOVIU_FIELD(serkoviu_ao_block, state, 36);
 SERKOVIU_FIELD(serkoviu_ao_block, st_rev, 88);
-SERKOVIU_LAYOUT(serkoviu_device, 440, 8);
+SERKOVIU_LAYOUT(serkoviu_di_block, 32, 4);
+SERKOVIU_FIELD(serkoviu_di_block, settings, 0);
+SERKOVIU_FIELD(serkoviu_di_block, state, 16);
+SERKOVIU_FIELD(serkoviu_di_block, st_rev, 28);
+SERKOVIU_LAYOUT(serkoviu_do_block, 60, 4);
+SERKOVIU_FIELD(serkoviu_do_block, settings, 0);
+SERKOVIU_FIELD(serkoviu_do_block, state, 20);
+SERKOVIU_FIELD(serkoviu_do_block, st_rev, 56);
+SERKOVIU_LAYOUT(serkoviu_device, 528, 8);
 SERKOVIU_FIELD(serkoviu_device, write_locking, 0);
 SERKOVIU_FIELD(serkoviu_device, ain, 4);
 SERKOVIU_FIELD(serkoviu_device, tot, 280);
 SERKOVIU_FIELD(serkoviu_device, ao, 344);
+SERKOVIU_FIELD(serkoviu_device, di, 436);
+SERKOVIU_FIELD(serkoviu_device, dout, 468);
 SERKOVIU_LAYOUT(serkoviu_order, 8, 4);
 SERKOVIU_FIELD(serkoviu_order, kind, 0);
 SERKOVIU_FIELD(serkoviu_order, value, 4);
+SERKOVIU_LAYOUT(serkoviu_order_d, 2, 1);
+SERKOVIU_FIELD(serkoviu_order_d, kind, 0);
+SERKOVIU_FIELD(serkoviu_order_d, value, 1);
+SERKOVIU_LAYOUT(serkoviu_orders, 12, 4);
+SERKOVIU_FIELD(serkoviu_orders, ao, 0);
+SERKOVIU_FIELD(serkoviu_orders, dout, 8);
 SERKOVIU_LAYOUT(serkoviu_reading, 12, 4);
 SERKOVIU_FIELD(serkoviu_reading, answer, 0);
 SERKOVIU_FIELD(serkoviu_reading, first, 4);

@@ -1,4 +1,5 @@
-/* The head in a main loop: a thousand ticks with simulated transducers and a master whose telegrams stop half-way.
+/* The head in a main loop: a thousand ticks with simulated transducers, a contact at the gate and a master whose telegrams stop
+ * half-way.
  *
  *     rt staticlib capi
  *     gcc -Iinclude examples/c/main.c -Ltarget/staticlib -lcapi
@@ -44,6 +45,16 @@ static void send_setpoint(serkoviu_device *device, float value)
     }
 }
 
+/* Opens or closes the sluice: two bytes. */
+static void send_gate(serkoviu_device *device, uint8_t value)
+{
+    uint8_t bytes[SERKOVIU_TELEGRAM_D_BYTES] = {value, SERKOVIU_STATUS_GOOD};
+    uint8_t answer = serkoviu_telegram(device, SERKOVIU_SP_D, bytes, sizeof bytes);
+    if (answer != SERKOVIU_ACCEPTED) {
+        printf("telegram: refused %u\n", answer);
+    }
+}
+
 /* AIN's table: the weir's discharge over the stage, both as currents of 4 to 20 mA. x, then y, highest byte first. */
 static void load_table(serkoviu_device *device)
 {
@@ -80,25 +91,40 @@ int main(void)
     set(&device, SERKOVIU_AO, SERKOVIU_AO_FSAFE_TIME, 20, 0); /* 2 s */
     set(&device, SERKOVIU_AO, SERKOVIU_AO_FSAFE_TYPE, SERKOVIU_FSAFE_TYPE_VALUE, 0);
     set(&device, SERKOVIU_AO, SERKOVIU_AO_FSAFE_VALUE, bits_of(25.0f), 0);
+    set(&device, SERKOVIU_DO, SERKOVIU_DO_FSAFE_TIME, 20, 0);
+    set(&device, SERKOVIU_DO, SERKOVIU_DO_FSAFE_TYPE, SERKOVIU_FSAFE_TYPE_SAFE, 0);
+    set(&device, SERKOVIU_DI, SERKOVIU_DI_INVERT, SERKOVIU_INVERT_ON, 0); /* the contact opens as the gate does */
     set(&device, SERKOVIU_AIN, SERKOVIU_AIN_ST_REV, 0, 0); /* can only be read */
 
     unsigned high = 0;
     unsigned followed = 0;
     unsigned fail_safe = 0;
+    unsigned safe = 0;
     float position = 0.0f;
+    uint8_t gate = 0;
     for (unsigned i = 0; i < 1000; i++) {
         if (i % 10 == 0 && i <= 500) {
             send_setpoint(&device, (float)(i / 10));
+            send_gate(&device, i >= 250);
         }
         serkoviu_pair ain = {bits_of(4.0f + (float)(i % 128) * 0.125f), SERKOVIU_STATUS_GOOD};
         serkoviu_pair tot = {bits_of(0.015625f), SERKOVIU_STATUS_GOOD};
-        serkoviu_order order = serkoviu_tick(&device, false, ain, tot);
-        switch (order.kind) {
+        serkoviu_discrete di = {gate == 0, SERKOVIU_STATUS_GOOD};
+        serkoviu_orders orders = serkoviu_tick(&device, false, ain, tot, di);
+        switch (orders.ao.kind) {
         case SERKOVIU_POSITION:
-            position = order.value;
+            position = orders.ao.value;
             break;
         default:
-            printf("tick %u: order of kind %u\n", i, order.kind);
+            printf("tick %u: order of kind %u\n", i, orders.ao.kind);
+            break;
+        }
+        switch (orders.dout.kind) {
+        case SERKOVIU_POSITION:
+            gate = orders.dout.value;
+            break;
+        default:
+            safe++; /* the drive's own safe position, here where it stands */
             break;
         }
         uint32_t alarms = serkoviu_read(&device, SERKOVIU_AIN, SERKOVIU_AIN_ALARMS).first;
@@ -114,6 +140,9 @@ int main(void)
     printf("HI stood in %u ticks\n", high);
     printf("AO followed the setpoint in %u ticks, was in fail-safe in %u, last position %g\n", followed, fail_safe,
            (double)position);
+    serkoviu_reading contact = serkoviu_read(&device, SERKOVIU_DI, SERKOVIU_DI_OUT_D);
+    printf("the gate is at %u, its contact says %" PRIu32 ", status 0x%02" PRIX32 "; the sluice was in Safe in %u ticks\n", gate,
+           contact.first, contact.second, safe);
     printf("total %" PRId64 "\n", serkoviu_total(&device));
 
     uint8_t image[SERKOVIU_IMAGE_BYTES];

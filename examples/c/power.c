@@ -128,8 +128,9 @@ static void run(serkoviu_device *device, int ticks)
 {
     serkoviu_pair stage = {bits_of(50.0f), SERKOVIU_STATUS_GOOD};
     serkoviu_pair rate = {bits_of(1.0f), SERKOVIU_STATUS_GOOD};
+    serkoviu_discrete gate = {0, SERKOVIU_STATUS_GOOD};
     for (int i = 0; i < ticks; i++) {
-        serkoviu_tick(device, false, stage, rate);
+        serkoviu_tick(device, false, stage, rate, gate);
     }
 }
 

@@ -37,7 +37,8 @@ static serkoviu_order tick(serkoviu_device *device, float ain, uint8_t ain_statu
 {
     serkoviu_pair first = {bits_of(ain), ain_status};
     serkoviu_pair second = {bits_of(rate), rate_status};
-    return serkoviu_tick(device, false, first, second);
+    serkoviu_discrete third = {0, SERKOVIU_STATUS_GOOD};
+    return serkoviu_tick(device, false, first, second, third).ao;
 }
 
 static serkoviu_order good_tick(serkoviu_device *device)
@@ -352,16 +353,89 @@ static void ao(void)
     }
 }
 
+/* What DI gives of a value and a status. */
+static bool contact_is(serkoviu_device device, uint8_t value, uint8_t status, uint32_t out, uint32_t out_status)
+{
+    serkoviu_pair none = {0, SERKOVIU_STATUS_GOOD};
+    serkoviu_discrete di = {value, status};
+    serkoviu_tick(&device, false, none, none, di);
+    return reads(&device, SERKOVIU_DI, SERKOVIU_DI_OUT_D, out, out_status);
+}
+
+static void di(void)
+{
+    serkoviu_device d = serkoviu_factory();
+    CHECK(contact_is(d, 1, SERKOVIU_STATUS_GOOD, 1, SERKOVIU_STATUS_GOOD));
+    CHECK(contact_is(with(d, SERKOVIU_DI, SERKOVIU_DI_INVERT, SERKOVIU_INVERT_ON), 1, SERKOVIU_STATUS_GOOD, 0,
+                     SERKOVIU_STATUS_GOOD));
+    CHECK(contact_is(with(d, SERKOVIU_DI, SERKOVIU_DI_INVERT, SERKOVIU_INVERT_OFF), 1, SERKOVIU_STATUS_GOOD, 1,
+                     SERKOVIU_STATUS_GOOD));
+    /* Another value than 0 and 1, by each FSAFE_TYPE. */
+    serkoviu_device value = with(d, SERKOVIU_DI, SERKOVIU_DI_FSAFE_VAL_D, 1);
+    CHECK(contact_is(value, 7, SERKOVIU_STATUS_GOOD, 1, SERKOVIU_STATUS_UNCERTAIN_SUBSTITUTE));
+    serkoviu_device last = with(d, SERKOVIU_DI, SERKOVIU_DI_FSAFE_TYPE, SERKOVIU_FSAFE_TYPE_LAST);
+    CHECK(contact_is(last, 7, SERKOVIU_STATUS_GOOD, 0, SERKOVIU_STATUS_UNCERTAIN_INITIAL));
+    serkoviu_device bad = with(d, SERKOVIU_DI, SERKOVIU_DI_FSAFE_TYPE, SERKOVIU_FSAFE_TYPE_BAD_VALUE);
+    CHECK(contact_is(bad, 7, SERKOVIU_STATUS_GOOD, 0, SERKOVIU_STATUS_BAD_CONFIGURATION));
+    CHECK(contact_is(bad, 1, SERKOVIU_STATUS_BAD_SENSOR, 1, SERKOVIU_STATUS_BAD_SENSOR));
+    /* A target of DI, and its reads. */
+    serkoviu_device man = with(d, SERKOVIU_DI, SERKOVIU_DI_TARGET_MODE, SERKOVIU_MODE_MAN);
+    CHECK(reads(&man, SERKOVIU_DI, SERKOVIU_DI_ST_REV, 1, 0));
+    CHECK(reads(&man, SERKOVIU_DI, SERKOVIU_DI_ACTUAL_MODE, SERKOVIU_MODE_OS, 0));
+    CHECK(serkoviu_write(&man, SERKOVIU_DI, SERKOVIU_DI_OUT_D, 1, 0x83) == SERKOVIU_ACCEPTED);
+    CHECK(contact_is(man, 0, SERKOVIU_STATUS_GOOD, 1, 0x83));
+}
+
+/* DO's order, and what it gives. */
+static bool sluice_is(serkoviu_device *device, uint8_t kind, uint8_t value, uint32_t out, uint32_t status)
+{
+    serkoviu_pair none = {0, SERKOVIU_STATUS_GOOD};
+    serkoviu_discrete di = {0, SERKOVIU_STATUS_GOOD};
+    serkoviu_order_d order = serkoviu_tick(device, false, none, none, di).dout;
+    return order.kind == kind && order.value == value && reads(device, SERKOVIU_DO, SERKOVIU_DO_OUT_D, out, status);
+}
+
+static void dout(void)
+{
+    const uint8_t open[SERKOVIU_TELEGRAM_D_BYTES] = {1, SERKOVIU_STATUS_GOOD};
+    serkoviu_device d = with(serkoviu_factory(), SERKOVIU_DO, SERKOVIU_DO_FSAFE_TIME, 1);
+    serkoviu_device fresh = d;
+    CHECK(sluice_is(&fresh, SERKOVIU_POSITION, 0, 0, SERKOVIU_STATUS_UNCERTAIN_SUBSTITUTE));
+    serkoviu_device value = with(with(d, SERKOVIU_DO, SERKOVIU_DO_FSAFE_VAL_D, 1), SERKOVIU_DO, SERKOVIU_DO_INVERT, SERKOVIU_INVERT_ON);
+    CHECK(sluice_is(&value, SERKOVIU_POSITION, 0, 0, SERKOVIU_STATUS_UNCERTAIN_SUBSTITUTE));
+    serkoviu_device safe = with(d, SERKOVIU_DO, SERKOVIU_DO_FSAFE_TYPE, SERKOVIU_FSAFE_TYPE_SAFE);
+    CHECK(sluice_is(&safe, SERKOVIU_SAFE, 0, 0, SERKOVIU_STATUS_BAD_NON_SPECIFIC));
+    /* FSAFE_TIME 1: two ticks follow a telegram, the third is fail-safe. */
+    serkoviu_device last = with(d, SERKOVIU_DO, SERKOVIU_DO_FSAFE_TYPE, SERKOVIU_FSAFE_TYPE_LAST);
+    CHECK(serkoviu_telegram(&last, SERKOVIU_SP_D, open, sizeof open) == SERKOVIU_ACCEPTED);
+    CHECK(sluice_is(&last, SERKOVIU_POSITION, 1, 1, SERKOVIU_STATUS_GOOD));
+    CHECK(sluice_is(&last, SERKOVIU_POSITION, 1, 1, SERKOVIU_STATUS_GOOD));
+    CHECK(sluice_is(&last, SERKOVIU_POSITION, 1, 1, SERKOVIU_STATUS_UNCERTAIN_LAST_USABLE));
+    /* In RCas RCAS_IN_D counts, and not SP_D; in O/S nothing is ordered. */
+    serkoviu_device rcas = with(d, SERKOVIU_DO, SERKOVIU_DO_TARGET_MODE, SERKOVIU_MODE_RCAS);
+    CHECK(serkoviu_telegram(&rcas, SERKOVIU_SP_D, open, sizeof open) == SERKOVIU_ACCEPTED);
+    CHECK(sluice_is(&rcas, SERKOVIU_POSITION, 0, 0, SERKOVIU_STATUS_UNCERTAIN_SUBSTITUTE));
+    CHECK(serkoviu_telegram(&rcas, SERKOVIU_RCAS_IN_D, open, sizeof open) == SERKOVIU_ACCEPTED);
+    CHECK(sluice_is(&rcas, SERKOVIU_POSITION, 1, 1, SERKOVIU_STATUS_GOOD));
+    CHECK(reads(&rcas, SERKOVIU_DO, SERKOVIU_DO_ACTUAL_MODE, SERKOVIU_MODE_RCAS, 0));
+    serkoviu_device off = with(d, SERKOVIU_DO, SERKOVIU_DO_TARGET_MODE, SERKOVIU_MODE_OS);
+    CHECK(sluice_is(&off, SERKOVIU_REST, 0, 0, SERKOVIU_STATUS_BAD_OUT_OF_SERVICE));
+}
+
 static void answers(void)
 {
     serkoviu_device d = serkoviu_factory();
     uint8_t room[SERKOVIU_PACKED_BYTES + 1] = {0};
-    CHECK(serkoviu_read(&d, SERKOVIU_AO + 1, SERKOVIU_AO_ST_REV).answer == SERKOVIU_NO_SUCH_BLOCK);
+    CHECK(serkoviu_read(&d, SERKOVIU_DO + 1, SERKOVIU_DO_ST_REV).answer == SERKOVIU_NO_SUCH_BLOCK);
+    CHECK(serkoviu_write(&d, SERKOVIU_DI, SERKOVIU_DI_OUT_D, 2, 0) == SERKOVIU_WORDS_NOT_ALLOWED);
+    CHECK(serkoviu_write(&d, SERKOVIU_DO, SERKOVIU_DO_OUT_D, 1, 0) == SERKOVIU_NOT_MAN);
     CHECK(serkoviu_read(&d, SERKOVIU_TOT, SERKOVIU_AIN_ALARMS).answer == SERKOVIU_NO_SUCH_PARAMETER);
     CHECK(serkoviu_write(&d, SERKOVIU_AIN, SERKOVIU_AIN_ACTUAL_MODE, 0, 0) == SERKOVIU_READ_ONLY);
     CHECK(serkoviu_write(&d, SERKOVIU_AIN, SERKOVIU_AIN_TARGET_MODE, 1, 0) == SERKOVIU_WORDS_NOT_ALLOWED);
     CHECK(serkoviu_write(&d, SERKOVIU_TOT, SERKOVIU_TOT_TOTAL, 0, 0) == SERKOVIU_NOT_MAN);
     CHECK(serkoviu_telegram(&d, SERKOVIU_SP, room, SERKOVIU_TELEGRAM_BYTES + 1) == SERKOVIU_WRONG_LENGTH);
+    CHECK(serkoviu_telegram(&d, SERKOVIU_SP_D, room, SERKOVIU_TELEGRAM_D_BYTES + 1) == SERKOVIU_WRONG_LENGTH);
+    CHECK(serkoviu_telegram(&d, SERKOVIU_RCAS_IN_D + 1, room, SERKOVIU_TELEGRAM_D_BYTES) == SERKOVIU_NO_SUCH_INPUT);
     CHECK(serkoviu_image(&d, room, SERKOVIU_IMAGE_BYTES - 1) == SERKOVIU_WRONG_LENGTH);
     CHECK(serkoviu_image(&d, room, SERKOVIU_IMAGE_BYTES) == SERKOVIU_ACCEPTED);
     d = with(d, SERKOVIU_PHYSICAL, SERKOVIU_PHYSICAL_WRITE_LOCKING, SERKOVIU_WRITE_LOCKING_ON);
@@ -405,6 +479,8 @@ int main(void)
     table();
     tot();
     ao();
+    di();
+    dout();
     answers();
     packing();
     printf("%u checks, %u wrong\n", made, wrong);

@@ -10,13 +10,16 @@ ghost use Rattle.device.specs.Factory.{factoryDevice};
 ghost use Rattle.device.specs.Read.{readOf};
 ghost use Rattle.device.specs.Calls.{writeOf, tickOf, telegramOf, loadOf, warmStarted};
 ghost use Rattle.packing.specs.Packed.{packedOf, packAnswer, packBytes, accepted, unpackedOf};
-ghost use Rattle.capi.specs.Blocks.{ainTicked, totTicked, aoTicked};
-ghost use Rattle.capi.specs.Numbers.{version, orderNumbers, answeredNumbers, readingNumbers, warmedNumbers, unpackedNumbers};
+ghost use Rattle.capi.specs.Blocks.{ainTicked, totTicked, diTicked, outputsTicked};
+ghost use Rattle.capi.specs.Numbers.{version, orderNumbers, discreteOrderNumbers, ordersNumbers, answeredNumbers, readingNumbers, warmedNumbers, unpackedNumbers};
 use device::AinBlock;
 use device::Answered;
 use device::AoBlock;
 use device::Device;
+use device::DiBlock;
+use device::DoutBlock;
 use device::TotBlock;
+use wire::Discrete;
 use wire::Pair;
 
 // A drive order: kind 0 Position, 1 Safe, 2 Rest; the value is 0 where the kind is not 0.
@@ -26,10 +29,25 @@ pub struct OrderNumbers {
     pub value: f32,
 }
 
-// AO after a tick, and its drive order.
-struct AoTicked {
-    block: AoBlock,
-    order: OrderNumbers,
+// The same of DO, whose value is discrete.
+#[repr(C)]
+pub struct DiscreteOrderNumbers {
+    pub kind: u8,
+    pub value: u8,
+}
+
+// The drive orders of a tick.
+#[repr(C)]
+pub struct OrdersNumbers {
+    pub ao: OrderNumbers,
+    pub dout: DiscreteOrderNumbers,
+}
+
+// AO and DO after a tick, and their drive orders.
+struct OutputsTicked {
+    ao: AoBlock,
+    dout: DoutBlock,
+    orders: OrdersNumbers,
 }
 
 // The device after a call, and the call's number: 0 accepted, else the number of the ground of refusal.
@@ -62,12 +80,22 @@ fn order_numbers(order: ao::Order) -> OrderNumbers
     }
 }
 
+fn discrete_order_numbers(order: dout::Order) -> DiscreteOrderNumbers
+    ensures { λ r. ⌜ r ≡ discreteOrderNumbers order ⌝ }
+{
+    match order {
+        dout::Order::Position(x) => DiscreteOrderNumbers { kind: 0, value: x },
+        dout::Order::Safe => DiscreteOrderNumbers { kind: 1, value: 0 },
+        dout::Order::Rest => DiscreteOrderNumbers { kind: 2, value: 0 },
+    }
+}
+
 // The archive's version, that of the header it belongs to: major, minor and patch, a byte each.
 #[no_mangle]
 pub extern "C" fn serkoviu_version() -> u32
     ensures { λ r. ⌜ r ≡ version ⌝ }
 {
-    0x01_02_00
+    0x02_00_00
 }
 
 #[no_mangle]
@@ -95,30 +123,57 @@ fn tot_ticked(b: TotBlock, fault: bool, pair: Pair) -> TotBlock
     next
 }
 
-fn ao_ticked(b: AoBlock, fault: bool) -> AoTicked
-    ensures { λ r. ⌜ r ≡ aoTicked b fault ⌝ }
+fn di_ticked(b: DiBlock, fault: bool, pair: Discrete) -> DiBlock
+    ensures { λ r. ⌜ r ≡ diTicked b fault pair ⌝ }
 {
-    let ticked = ao::tick(b.settings, b.state, fault);
+    let state = di::tick(b.settings, b.state, fault, pair.value, pair.status);
+    let mut next = b;
+    next.state = state;
+    next
+}
+
+fn outputs_ticked(ao: AoBlock, dout: DoutBlock, fault: bool) -> OutputsTicked
+    ensures { λ r. ⌜ r ≡ outputsTicked ao dout fault ⌝ }
+{
+    let ticked = ao::tick(ao.settings, ao.state, fault);
     let state = ticked.state;
     let order = ticked.order;
     let numbers = order_numbers(order);
-    let mut next = b;
-    next.state = state;
-    AoTicked {
-        block: next,
-        order: numbers,
+    let ticked_d = dout::tick(dout.settings, dout.state, fault);
+    let state_d = ticked_d.state;
+    let order_d = ticked_d.order;
+    let numbers_d = discrete_order_numbers(order_d);
+    let mut ao_next = ao;
+    let mut dout_next = dout;
+    ao_next.state = state;
+    dout_next.state = state_d;
+    OutputsTicked {
+        ao: ao_next,
+        dout: dout_next,
+        orders: OrdersNumbers {
+            ao: numbers,
+            dout: numbers_d,
+        },
     }
 }
 
 #[no_mangle]
-pub extern "C" fn serkoviu_tick(d: &mut Device, fault: bool, ain: Pair, tot: Pair) -> OrderNumbers
-    ensures { λ r. ⌜ (r ≡ orderNumbers (tickOf (now (d .entry)) fault ain tot .order)) × (now (d .exit) ≡ tickOf (now (d .entry)) fault ain tot .device) ⌝ }
+pub extern "C" fn serkoviu_tick(
+    d: &mut Device,
+    fault: bool,
+    ain: Pair,
+    tot: Pair,
+    di: Discrete,
+) -> OrdersNumbers
+    ensures { λ r. ⌜ (r ≡ ordersNumbers (tickOf (now (d .entry)) fault ain tot di)) × (now (d .exit) ≡ tickOf (now (d .entry)) fault ain tot di .device) ⌝ }
 {
     d.ain = ain_ticked(d.ain, fault, ain);
     d.tot = tot_ticked(d.tot, fault, tot);
-    let ticked = ao_ticked(d.ao, fault);
-    d.ao = ticked.block;
-    ticked.order
+    d.di = di_ticked(d.di, fault, di);
+    let ticked = outputs_ticked(d.ao, d.dout, fault);
+    d.ao = ticked.ao;
+    d.dout = ticked.dout;
+    ticked.orders
 }
 
 fn numbered(a: Answered) -> AnsweredNumbers
@@ -236,7 +291,7 @@ pub extern "C" fn serkoviu_warm_start(d: &mut Device) -> u8
 
 fn image(d: Device, buf: &mut [u8]) -> u8
     ensures { λ r. ⌜ r ≡ answerNumber (imageAnswer (now (buf .entry))) ⌝ }
-    ensures { λ _. ⌜ now (buf .exit) ≡ imageBytes (now (buf .entry)) (d .ain .state .out) (d .tot .state .out) (d .ao .state .out) ⌝ }
+    ensures { λ _. ⌜ now (buf .exit) ≡ imageBytes (now (buf .entry)) (d .ain .state .out) (d .tot .state .out) (d .ao .state .out) (d .di .state .out) (d .dout .state .out) ⌝ }
 {
     let answer = device::image(d, buf);
     wire::answer_number(answer)
@@ -245,7 +300,7 @@ fn image(d: Device, buf: &mut [u8]) -> u8
 #[no_mangle]
 pub extern "C" fn serkoviu_image(d: &Device, buf: &mut [u8]) -> u8
     ensures { λ r. ⌜ r ≡ answerNumber (imageAnswer (now (buf .entry))) ⌝ }
-    ensures { λ _. ⌜ now (buf .exit) ≡ imageBytes (now (buf .entry)) (now (d .entry) .ain .state .out) (now (d .entry) .tot .state .out) (now (d .entry) .ao .state .out) ⌝ }
+    ensures { λ _. ⌜ now (buf .exit) ≡ imageBytes (now (buf .entry)) (now (d .entry) .ain .state .out) (now (d .entry) .tot .state .out) (now (d .entry) .ao .state .out) (now (d .entry) .di .state .out) (now (d .entry) .dout .state .out) ⌝ }
 {
     image(*d, buf)
 }

@@ -30,6 +30,7 @@ fn mirrored(of_crate: &str, name: &str) -> String {
         ("dout", "Settings" | "State" | "Input") => format!("Do{name}"),
         (_, "DoutBlock") => "DoBlock".into(),
         ("di", "Kept") => "KeptD".into(),
+        ("capi", "DiscreteOrderNumbers") => "OrderDNumbers".into(),
         _ => name.into(),
     }
 }

@@ -23,7 +23,8 @@ use denote.Triple.Table.{entered, cited}
 use Rattle.device.proofs.Device as D
 use Rattle.capi.specs.declared.AnsweredNumbers.{AnsweredNumbers}
 use Rattle.capi.specs.Numbers.{warmedNumbers}
-use Rattle.capi.proofs.Devices.{device-val, stored, others, changes-meets}
+use Rattle.capi.proofs.AnsweredNumbers as N
+use Rattle.capi.proofs.Devices.{device-val, MetAt, stored, others, changes-meets}
 use Rattle.capi.proofs.warmed as g
 use Rattle.capi.proofs.warmed.Symbol as g-def
 use Rattle.capi.proofs.warmed.Symbol.{name as #capi·warmed}
@@ -42,13 +43,17 @@ module _ {M : Type 1} (𝓤 : URA M) (H : Heap 𝓤) (A : Atoms 𝓤) (W : Given
   ens κs a r = stored 𝓤 H A W (name (a .0)) (r .device) (Fins κs (others (f.signature .params)) (f.ended .kept .1) (a .1)) (lastsOf κs (others (f.signature .params)) (f.ended .kept .1) (a .1))
       (r ≡ warmedNumbers (now (a .0))) _ (λ e y. (ap (λ (x : AnsweredNumbers). x .answer) e, ap (λ (x : AnsweredNumbers). x .device) e))
 
+  met : (C : Calls 𝓤 H) (Λ : Loops 𝓤 H) (fm : FmC 𝓤 H (W .laws) C) → Triple 𝓤 (C #capi·warmed) Warmed
+      → MetAt 𝓤 H A W C Λ fm 0 (others (f.signature .params)) #capi·warmed (λ κs. tt) (λ κs. tt) [] (λ κs a. tt) (λ κs a. refl) (λ κs a are. tt) N.the-row (λ κs h a. g.spec 𝓤 H A at-mem run (κs .1) (h, a) .ensures tt)
+  met C Λ fm known κs qs h a = known ((κs .1, qs .1, tt, (h, a), (device-val h ∷ [], _)), tt)
+
   meets : (C : Calls 𝓤 H) (Λ : Loops 𝓤 H) → FmC 𝓤 H (W .laws) C → Triple 𝓤 (C #capi·warmed) Warmed → Meets 𝓤 H A f.signature (WpFn 𝓤 H C Λ code.function) (f.spec 𝓤 H A at-mem run)
   meets C Λ fm known =
       changes-meets 𝓤 H A W C Λ fm 0 (others (f.signature .params)) #capi·warmed (λ κs. tt) (λ κs. tt)
       [] (λ κs a. tt) (λ κs a. refl)
       (λ κs a are. tt)
       (λ κs h a. g.spec 𝓤 H A at-mem run (κs .1) (h, a) .ensures tt) (λ κs a. f.spec 𝓤 H A at-mem run κs a .ensures tt)
-      (λ κs qs h a. known ((κs .1, qs .1, tt, (h, a), (device-val h ∷ [], _)), tt)) ens
+      (met C Λ fm known) ens
 
 pub serkoviu-warm-start-spec : {M : Type 1} → stated.statement M
 unfolding code.routine tablesOf
