@@ -102,7 +102,7 @@ static void modes(void)
     serkoviu_device d = serkoviu_factory();
     CHECK(telegram(&d, SERKOVIU_SP, 25.0f, SERKOVIU_QUALITY_GOOD) == SERKOVIU_ACCEPTED);
     CHECK(telegram(&d, SERKOVIU_RCAS_IN, 75.0f, SERKOVIU_QUALITY_GOOD_CASCADE) == SERKOVIU_ACCEPTED);
-    CHECK(telegram(&d, SERKOVIU_RCAS_IN + 1, 70.0f, SERKOVIU_STATUS_GOOD) == SERKOVIU_NO_SUCH_INPUT);
+    CHECK(telegram(&d, SERKOVIU_RCAS_IN_D + 1, 70.0f, SERKOVIU_STATUS_GOOD) == SERKOVIU_NO_SUCH_INPUT);
     serkoviu_device by_sp = with(d, SERKOVIU_AO, SERKOVIU_AO_TARGET_MODE, SERKOVIU_MODE_AUTO);
     CHECK(positioned(good_tick(&by_sp), 25.0f) && ao_is(&by_sp, 25.0f, SERKOVIU_STATUS_GOOD));
     serkoviu_device by_rcas_in = with(d, SERKOVIU_AO, SERKOVIU_AO_TARGET_MODE, SERKOVIU_MODE_RCAS);

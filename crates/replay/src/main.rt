@@ -419,7 +419,14 @@ fn held(line: &mut [u8], length: usize, bytes: &[u8]) -> usize
 }
 
 // Adds the part of a chunk that belongs to one line; where 0x0A ends it there, the line's call is made.
-fn line_of(s: State, chunk: &[u8], from: usize, end: usize, line: &mut [u8], out: &mut [u8]) -> State
+fn line_of(
+    s: State,
+    chunk: &[u8],
+    from: usize,
+    end: usize,
+    line: &mut [u8],
+    out: &mut [u8],
+) -> State
     requires { ⌜ (from ≤ end) × (end ≤ length (now chunk)) × (s .length ≤ length (now line)) ⌝ }
     ensures { λ r. ⌜ r .length ≤ length (now (line .entry)) ⌝ }
 {
