@@ -1,5 +1,7 @@
 // AIN, the analog input block: its settings, its state and its tick (document 01, AIN tick and Mode;
 // document 02, request 1).
+#![tactic(auto)]
+
 ghost use Rattle.std.specs.Prelude.{◌≡◌};
 ghost use Rattle.ain.specs.Scaling.{scaled_of, filtered};
 ghost use Rattle.ain.specs.Alarm.{alarm_stands, alarms_of, alarm_status, no_alarms};
@@ -13,7 +15,7 @@ use wire::Pair;
 
 // The stored parameters.
 #[repr(C)]
-#[derive(Drop)]
+#[derive(Clone, Copy)]
 pub struct Settings {
     pub target: u32,
     pub pv_scale: Scale,
@@ -31,7 +33,7 @@ pub struct Settings {
 
 // Which alarms stand.
 #[repr(C)]
-#[derive(Drop)]
+#[derive(Clone, Copy)]
 pub struct Alarms {
     pub hi_hi: bool,
     pub hi: bool,
@@ -41,7 +43,7 @@ pub struct Alarms {
 
 // What ticks change, and the operator's pair.
 #[repr(C)]
-#[derive(Drop)]
+#[derive(Clone, Copy)]
 pub struct State {
     // OUT as last given.
     pub out: Pair,

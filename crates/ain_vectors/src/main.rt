@@ -3,6 +3,8 @@
 // this code, in exact fractions rounded to singles. What it would catch: a rounding too many or too few, scaling in another order or
 // left out, a filter filled or emptied by the wrong tick, the status or the value of another cause, an alarm moved by the wrong
 // limit, a table used under LIN_TYPE 0, after scaling or for usable ticks alone.
+#![tactic(auto)]
+
 ghost use Rattle.std.specs.Prelude.{◌≤◌};
 
 use ain::{Settings, State};

@@ -1,5 +1,7 @@
 // AO, the analog output block (document 01, AO tick): setpoint telegrams on two inputs, fail-safe, scaling, and the
 // order that drives the valve.
+#![tactic(auto)]
+
 ghost use Rattle.std.specs.Prelude.{◌≡◌};
 ghost use Rattle.blocks.specs.FailSafe.{fail_safe_case, positioned, scaled_or};
 ghost use Rattle.ao.specs.State.{fresh_state, started, warm_started, operated_by, no_telegrams};
@@ -14,7 +16,7 @@ use wire::{Answer, Pair, Received, Refusal};
 
 // The stored parameters that the tick goes by.
 #[repr(C)]
-#[derive(Drop)]
+#[derive(Clone, Copy)]
 pub struct Settings {
     pub target: u32,
     pub pv_scale: Scale,
@@ -28,7 +30,7 @@ pub struct Settings {
 // A setpoint input: whether a usable telegram came since start, the value of the last one (0 while there is none), the
 // ticks since (up to 65,536; 0 while there is none), and whether an IFS came with no usable one after it.
 #[repr(C)]
-#[derive(Drop)]
+#[derive(Clone, Copy)]
 pub struct Input {
     pub some: bool,
     pub value: f32,
@@ -38,7 +40,7 @@ pub struct Input {
 
 // OUT as last given, the actual mode of the last tick, the operator's pair, and the inputs SP and RCAS_IN.
 #[repr(C)]
-#[derive(Drop)]
+#[derive(Clone, Copy)]
 pub struct State {
     pub out: Pair,
     pub mode: u32,
@@ -48,20 +50,20 @@ pub struct State {
 }
 
 // The drive order.
-#[derive(Drop)]
+#[derive(Clone, Copy)]
 pub enum Order {
     Position(f32),
     Safe,
     Rest,
 }
 
-#[derive(Drop)]
+#[derive(Clone, Copy)]
 pub struct Taken {
     pub state: State,
     pub answer: Answer,
 }
 
-#[derive(Drop)]
+#[derive(Clone, Copy)]
 pub struct Ticked {
     pub state: State,
     pub order: Order,
@@ -69,7 +71,7 @@ pub struct Ticked {
 
 // What decides value, status and order in Auto and RCas: the last usable setpoint; by FSAFE_TYPE FSAFE_VALUE, the last
 // usable setpoint or none, or the safe position.
-#[derive(Drop)]
+#[derive(Clone, Copy)]
 enum Case {
     Following(f32),
     Fallback(f32),
@@ -79,7 +81,7 @@ enum Case {
 }
 
 // What a tick gives.
-#[derive(Drop)]
+#[derive(Clone, Copy)]
 struct Given {
     out: Pair,
     order: Order,

@@ -1,5 +1,7 @@
 // AO worked by hand from document 01: point H, the examples of the project's readings, and the refused telegrams. Each step
 // writes a line; `stdout` has what the paper says.
+#![tactic(auto)]
+
 use ao::{Order, Settings, State};
 use libc::STDOUT_FILENO;
 use numbers::floats::{bits_of, float_of};
@@ -7,7 +9,7 @@ use scaling::Scale;
 use wire::Pair;
 
 // A block with its parameters.
-#[derive(Drop)]
+#[derive(Clone, Copy)]
 struct Block {
     settings: Settings,
     state: State,

@@ -2,6 +2,8 @@
 // classification of a transducer's status (document 01, Mode, Parameters, AIN tick), the classification of a setpoint's
 // status, the silence of an input and the test for fail-safe (AO tick), and the operator's pair on entering Man (document
 // 02, request 2).
+#![tactic(auto)]
+
 ghost use Rattle.std.specs.Prelude.{◌≡◌};
 ghost use Rattle.blocks.specs.FailSafe.{class_of, silence_after, fail_safe_acts};
 ghost use Rattle.blocks.specs.Common.{actual_mode, held_out, held_out_d, fresh_operator, fresh_operator_d, entered_man, operator_after};
@@ -26,21 +28,21 @@ pub const FRESH_STATUS: u8 = 0x4c;
 
 // A value that may be missing; while it is, the value is 0.
 #[repr(C)]
-#[derive(Drop)]
+#[derive(Clone, Copy)]
 pub struct Kept {
     pub some: bool,
     pub value: f32,
 }
 
 // A transducer's input: usable, or Bad with the status that the tick goes by.
-#[derive(Drop)]
+#[derive(Clone, Copy)]
 pub enum Input {
     Usable,
     Bad(u8),
 }
 
 // What a status byte makes of a telegram, its value left aside.
-#[derive(Drop)]
+#[derive(Clone, Copy)]
 pub enum Class {
     Usable,
     InitiateFailSafe,

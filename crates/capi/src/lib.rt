@@ -3,6 +3,8 @@
 // export, since a returned reference does not cross either. A tick works on the caller's device in place, block by
 // block: the compiler then copies no block, and holds the fields of one at a time. The other calls copy the caller's
 // device, make the call by value and, where it changes the device, store it back.
+#![tactic(auto)]
+
 ghost use Rattle.std.specs.Prelude.{◌≡◌};
 ghost use Rattle.wire.specs.Refusal.{answer_number};
 ghost use Rattle.wire.specs.Image.{image_answer, image_bytes};
@@ -18,7 +20,7 @@ use wire::{Discrete, Pair};
 
 // A drive order: kind 0 Position, 1 Safe, 2 Rest; the value is 0 where the kind is not 0.
 #[repr(C)]
-#[derive(Drop)]
+#[derive(Clone, Copy)]
 pub struct OrderNumbers {
     pub kind: u8,
     pub value: f32,
@@ -26,7 +28,7 @@ pub struct OrderNumbers {
 
 // The same of DO, whose value is discrete.
 #[repr(C)]
-#[derive(Drop)]
+#[derive(Clone, Copy)]
 pub struct DiscreteOrderNumbers {
     pub kind: u8,
     pub value: u8,
@@ -34,14 +36,14 @@ pub struct DiscreteOrderNumbers {
 
 // The drive orders of a tick.
 #[repr(C)]
-#[derive(Drop)]
+#[derive(Clone, Copy)]
 pub struct OrdersNumbers {
     pub ao: OrderNumbers,
     pub dout: DiscreteOrderNumbers,
 }
 
 // AO and DO after a tick, and their drive orders.
-#[derive(Drop)]
+#[derive(Clone, Copy)]
 struct OutputsTicked {
     ao: AoBlock,
     dout: DoutBlock,
@@ -49,7 +51,7 @@ struct OutputsTicked {
 }
 
 // The device after a call, and the call's number: 0 accepted, else the number of the ground of refusal.
-#[derive(Drop)]
+#[derive(Clone, Copy)]
 struct AnsweredNumbers {
     device: Device,
     answer: u8,
@@ -57,7 +59,7 @@ struct AnsweredNumbers {
 
 // A read's number and words; both words are 0 where it is refused.
 #[repr(C)]
-#[derive(Drop)]
+#[derive(Clone, Copy)]
 pub struct ReadingNumbers {
     pub answer: u8,
     pub first: u32,

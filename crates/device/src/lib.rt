@@ -1,5 +1,7 @@
 // The device: the five function blocks and write protection on one value that C can hold, and the calls on it
 // (document 01, Calls on the device; document 02, requests 1 to 3).
+#![tactic(auto)]
+
 ghost use Rattle.std.specs.Prelude.{◌≡◌, ◌%◌, ◌≤◌};
 ghost use Rattle.wire.specs.Image.{image_answer, image_bytes, part_of, part_place};
 ghost use Rattle.parameters.specs.Table.{default_of};
@@ -18,7 +20,7 @@ use scaling::Scale;
 use wire::{Answer, Discrete, Pair, Refusal};
 
 #[repr(C)]
-#[derive(Drop)]
+#[derive(Clone, Copy)]
 pub struct AinBlock {
     pub settings: ain::Settings,
     pub state: ain::State,
@@ -27,7 +29,7 @@ pub struct AinBlock {
 }
 
 #[repr(C)]
-#[derive(Drop)]
+#[derive(Clone, Copy)]
 pub struct TotBlock {
     pub settings: tot::Settings,
     pub state: tot::State,
@@ -35,7 +37,7 @@ pub struct TotBlock {
 }
 
 #[repr(C)]
-#[derive(Drop)]
+#[derive(Clone, Copy)]
 pub struct AoBlock {
     pub settings: ao::Settings,
     pub state: ao::State,
@@ -43,7 +45,7 @@ pub struct AoBlock {
 }
 
 #[repr(C)]
-#[derive(Drop)]
+#[derive(Clone, Copy)]
 pub struct DiBlock {
     pub settings: di::Settings,
     pub state: di::State,
@@ -51,7 +53,7 @@ pub struct DiBlock {
 }
 
 #[repr(C)]
-#[derive(Drop)]
+#[derive(Clone, Copy)]
 pub struct DoutBlock {
     pub settings: dout::Settings,
     pub state: dout::State,
@@ -59,7 +61,7 @@ pub struct DoutBlock {
 }
 
 #[repr(C)]
-#[derive(Drop)]
+#[derive(Clone, Copy)]
 pub struct Device {
     pub write_locking: u32,
     pub ain: AinBlock,
@@ -70,14 +72,14 @@ pub struct Device {
 }
 
 // The device after a call, and what the call is answered.
-#[derive(Drop)]
+#[derive(Clone, Copy)]
 pub struct Answered {
     pub device: Device,
     pub answer: Answer,
 }
 
 // The device after a tick, and the drive orders of AO and of DO.
-#[derive(Drop)]
+#[derive(Clone, Copy)]
 pub struct Ticked {
     pub device: Device,
     pub order: Order,
@@ -85,7 +87,7 @@ pub struct Ticked {
 }
 
 // What a read is answered.
-#[derive(Drop)]
+#[derive(Clone, Copy)]
 pub enum Reading {
     Read(Words),
     Refused(Refusal),

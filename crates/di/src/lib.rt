@@ -1,5 +1,7 @@
 // DI, the discrete input block: its settings, its state and its tick (document 02, request 3, by document 01, AIN tick
 // and Mode).
+#![tactic(auto)]
+
 ghost use Rattle.std.specs.Prelude.{◌≡◌};
 ghost use Rattle.di.specs.Kept.{no_value};
 ghost use Rattle.di.specs.Tick.{fail_safe_out, usable_tick, unusable_tick, auto_tick, man_tick, out_of_service_tick, tick_of};
@@ -10,7 +12,7 @@ use wire::Discrete;
 
 // The stored parameters.
 #[repr(C)]
-#[derive(Drop)]
+#[derive(Clone, Copy)]
 pub struct Settings {
     pub target: u32,
     pub invert: u32,
@@ -20,7 +22,7 @@ pub struct Settings {
 
 // A value that may be missing; while it is, the value is 0.
 #[repr(C)]
-#[derive(Drop)]
+#[derive(Clone, Copy)]
 pub struct Kept {
     pub some: bool,
     pub value: u8,
@@ -28,7 +30,7 @@ pub struct Kept {
 
 // What ticks change, and the operator's pair.
 #[repr(C)]
-#[derive(Drop)]
+#[derive(Clone, Copy)]
 pub struct State {
     // OUT_D as last given.
     pub out: Discrete,

@@ -2,6 +2,8 @@
 // transducer's value and status, then OUT_D's value and status and the actual mode; so too a write of OUT_D and a warm
 // start. What it would catch: another value than 0 or 1 taken for one or given 0x10, INVERT on FSAFE_VAL_D, on the last
 // usable value, on the old one or in Man, an input of quality 3 or 1 taken for another.
+#![tactic(auto)]
+
 use di::{Settings, State};
 use wire::Discrete;
 

@@ -1,5 +1,7 @@
 // DO, the discrete output block (document 02, request 3, by document 01, AO tick): setpoint telegrams on two inputs,
 // fail-safe, INVERT, and the order that drives the sluice.
+#![tactic(auto)]
+
 ghost use Rattle.std.specs.Prelude.{◌≡◌};
 ghost use Rattle.blocks.specs.FailSafe.{fail_safe_case, positioned};
 ghost use Rattle.dout.specs.State.{fresh_state, started, warm_started, operated_by, no_telegrams};
@@ -12,7 +14,7 @@ use wire::{Answer, Discrete, DiscreteReceived, Refusal};
 
 // The stored parameters that the tick goes by.
 #[repr(C)]
-#[derive(Drop)]
+#[derive(Clone, Copy)]
 pub struct Settings {
     pub target: u32,
     pub invert: u32,
@@ -24,7 +26,7 @@ pub struct Settings {
 // A setpoint input: whether a usable telegram came since start, the value of the last one (0 while there is none), the
 // ticks since (up to 65,536; 0 while there is none), and whether an IFS came with no usable one after it.
 #[repr(C)]
-#[derive(Drop)]
+#[derive(Clone, Copy)]
 pub struct Input {
     pub some: bool,
     pub value: u8,
@@ -34,7 +36,7 @@ pub struct Input {
 
 // OUT_D as last given, the actual mode of the last tick, the operator's pair, and the inputs SP_D and RCAS_IN_D.
 #[repr(C)]
-#[derive(Drop)]
+#[derive(Clone, Copy)]
 pub struct State {
     pub out: Discrete,
     pub mode: u32,
@@ -44,20 +46,20 @@ pub struct State {
 }
 
 // The drive order.
-#[derive(Drop)]
+#[derive(Clone, Copy)]
 pub enum Order {
     Position(u8),
     Safe,
     Rest,
 }
 
-#[derive(Drop)]
+#[derive(Clone, Copy)]
 pub struct Taken {
     pub state: State,
     pub answer: Answer,
 }
 
-#[derive(Drop)]
+#[derive(Clone, Copy)]
 pub struct Ticked {
     pub state: State,
     pub order: Order,
@@ -65,7 +67,7 @@ pub struct Ticked {
 
 // What decides value, status and order in Auto and RCas: the last usable setpoint; by FSAFE_TYPE FSAFE_VAL_D, the last
 // usable setpoint or none, or the safe position.
-#[derive(Drop)]
+#[derive(Clone, Copy)]
 enum Case {
     Following(u8),
     Fallback(u8),
@@ -75,7 +77,7 @@ enum Case {
 }
 
 // What a tick gives.
-#[derive(Drop)]
+#[derive(Clone, Copy)]
 struct Given {
     out: Discrete,
     order: Order,

@@ -1,12 +1,14 @@
 // DO worked by hand from documents 01 and 02, request 3, and the project's readings. Each step writes a line; `stdout` has
 // what the papers say. What it would catch: another value than 0 or 1 taken as a setpoint, an IFS that needs a value, INVERT
 // left out of FSAFE_VAL_D or put on values kept or in Man, the inputs or their silence exchanged, a refusal of another ground.
+#![tactic(auto)]
+
 use dout::{Order, Settings, State};
 use libc::STDOUT_FILENO;
 use wire::Discrete;
 
 // A block with its parameters.
-#[derive(Drop)]
+#[derive(Clone, Copy)]
 struct Block {
     settings: Settings,
     state: State,

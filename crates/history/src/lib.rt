@@ -7,6 +7,8 @@
 //   2 block, parameter, first word (4), second word (4)   write
 //   3 input, length (8), that many bytes                  telegram
 //   4 length (8), that many bytes                         load
+#![tactic(auto)]
+
 ghost use Rattle.std.specs.Prelude.{◌≡◌, ◌+◌, ◌<◌, ◌≤◌, ◌^◌, get_or, take, drop, length};
 ghost use Rattle.history.specs.Encoded.{word_at, pair_at, discrete_at, found, tick_found, write_found, lent_by, telegram_found, load_found, step_at, is_malformed, call_of, Replays, heard};
 ghost use Rattle.history.specs.Calls.{after};
@@ -17,7 +19,7 @@ use device::{Device, Reading};
 use wire::{Answer, Discrete, Pair};
 
 // A call as it stands in an encoded list; a telegram by its input and length, a load by its length.
-#[derive(Drop)]
+#[derive(Clone, Copy)]
 pub enum Step {
     WarmStart,
     Tick(bool, Pair, Pair, Discrete),
@@ -28,14 +30,14 @@ pub enum Step {
 }
 
 // A call, and where the next one starts.
-#[derive(Drop)]
+#[derive(Clone, Copy)]
 pub struct Found {
     pub step: Step,
     pub next: usize,
 }
 
 // The device that a list of calls leads to; the factory device where the list is malformed.
-#[derive(Drop)]
+#[derive(Clone, Copy)]
 pub struct Replayed {
     pub malformed: bool,
     pub device: Device,
@@ -135,7 +137,7 @@ fn write_at(s: &[u8], at: usize) -> Found
 }
 
 // Bytes that a call lends: how many, and whether they are there.
-#[derive(Drop)]
+#[derive(Clone, Copy)]
 pub struct Lent {
     pub n: usize,
     pub there: bool,

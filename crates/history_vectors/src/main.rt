@@ -2,6 +2,8 @@
 // document 02, requests 1 to 3.
 // A line each: the list's name and `passed`, or what differs from the paper. What it would catch: a call read at the
 // wrong place or with its words in another order, a refused call that counts, a malformed list of which a part counts.
+#![tactic(auto)]
+
 use ao::Order;
 use device::Reading;
 use history::Replayed;

@@ -1,4 +1,6 @@
 // The linearisation table of AIN (document 02, request 1): what bytes stand for, and what a value becomes by a table.
+#![tactic(auto)]
+
 ghost use Rattle.std.specs.Prelude.{◌≡◌, ◌+◌, ◌*◌, ◌≤◌, min, length, take, get_or};
 ghost use Rattle.linearisation.specs.Table.{zero_point, no_table, has_table, pairs_of, pairs_in, padded, whole_pairs, allowed, loaded_of};
 ghost use Rattle.linearisation.specs.Value.{between, value_at};
@@ -7,7 +9,7 @@ use wire::{Answer, Refusal};
 
 // A pair of the table: a measured value, and what it becomes.
 #[repr(C)]
-#[derive(Drop)]
+#[derive(Clone, Copy)]
 pub struct Point {
     pub x: f32,
     pub y: f32,
@@ -16,14 +18,14 @@ pub struct Point {
 // A table: its pairs from the first place on, and how many they are, 0 without a table. Places after the last pair hold
 // zeros, so that one table has one form.
 #[repr(C)]
-#[derive(Drop)]
+#[derive(Clone, Copy)]
 pub struct Table {
     pub count: u32,
     pub points: [Point; 21],
 }
 
 // What bytes stand for. Where they are refused, the table is the empty one.
-#[derive(Drop)]
+#[derive(Clone, Copy)]
 pub struct Loaded {
     pub table: Table,
     pub answer: Answer,

@@ -2,6 +2,8 @@
 // exact fractions rounded to singles. What it would catch: a table of the wrong length taken, or refused under another number, x that
 // do not rise or numbers that are not finite let in, places left filled, a byte order turned round, another pair used than the last
 // at or below the value, the quotient before the product, an end's y computed and not given, a value not finite changed.
+#![tactic(auto)]
+
 ghost use Rattle.std.specs.Prelude.{◌≤◌};
 
 use linearisation::{Loaded, Table};

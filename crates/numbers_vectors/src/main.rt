@@ -2,6 +2,8 @@
 // worked apart from this code, in exact fractions and whole numbers. What it would catch: a NaN pattern let through or told apart,
 // a range that excludes an end or takes in a NaN, cutting that rounds down, a sum that wraps, 23 or 25 bits kept, rounding where
 // bits are to be cleared.
+#![tactic(auto)]
+
 use numbers::floats::float_of;
 
 const OUT: i32 = 1;

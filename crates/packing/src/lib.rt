@@ -2,6 +2,8 @@
 // byte first. The first is the layout's version, 3; then every field of the device in the order of its struct, a word
 // each: numbers as they are, flags as 1 or 0, floats by their bits with 0x7FC00000 for a NaN. The total has two words,
 // two's complement, the higher first. The linearisation table has 43: its count, then x and y of each of its 21 places.
+#![tactic(auto)]
+
 ghost use Rattle.std.specs.Prelude.{◌≡◌, ◌+◌, ◌*◌, ◌≤◌, length};
 ghost use Rattle.wire.specs.Bytes.{word_bytes, replaced};
 ghost use Rattle.packing.specs.Words.{twos, of_twos, ain_words, table_words, tot_words, ao_words, di_words, dout_words, first_words, Small, device_of};
@@ -25,7 +27,7 @@ pub const PACKED: usize = 564;
 // What bytes are unpacked to. The answer is 0 where they are a device, else the refusal's number: 7 for another length
 // than PACKED, 255 for bytes that no device packs to. Of a refusal the device is the factory's.
 #[repr(C)]
-#[derive(Drop)]
+#[derive(Clone, Copy)]
 pub struct Unpacked {
     pub device: Device,
     pub answer: u8,

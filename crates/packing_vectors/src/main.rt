@@ -1,6 +1,8 @@
 // Devices packed and unpacked. The file `stdout` has what the packed form's description in `packing` and paper 01 make of
 // them, worked out apart from this code. It would show a field left out, packed twice or at another place, a byte order
 // turned round, a total or a NaN with other bits, a byte written after the 564, and bytes unpacked that are no device.
+#![tactic(auto)]
+
 use device::Device;
 use libc::STDOUT_FILENO;
 use linearisation::Point;

@@ -1,5 +1,7 @@
 // The parameters (document 01, Parameters): block and number decide storage class and allowed words, and with what
 // stands they decide whether a write is accepted (Refused calls). DI and DO are those of document 02, request 3.
+#![tactic(auto)]
+
 ghost use Rattle.std.specs.Prelude.{◌≡◌, []};
 ghost use Rattle.parameters.specs.Table.{entry_of, entry_in, physical, ain, tot, ao, discrete, dout, is_static};
 ghost use Rattle.parameters.specs.Words.{allows_of};
@@ -10,7 +12,7 @@ use scaling::Scale;
 use wire::{Answer, Refusal};
 
 // Storage class: static, kept but not in ST_REV, dynamic, read-only.
-#[derive(Drop)]
+#[derive(Clone, Copy)]
 pub enum Class {
     S,
     N,
@@ -19,7 +21,7 @@ pub enum Class {
 }
 
 // Which words a parameter takes. The second word is 0 where the case does not speak of it.
-#[derive(Drop)]
+#[derive(Clone, Copy)]
 pub enum Allowed {
     // None: the parameter is read-only.
     Nothing,
@@ -48,14 +50,14 @@ pub enum Allowed {
 
 // A parameter's two words.
 #[repr(C)]
-#[derive(Drop)]
+#[derive(Clone, Copy)]
 pub struct Words {
     pub first: u32,
     pub second: u32,
 }
 
 // What a block and a number lead to.
-#[derive(Drop)]
+#[derive(Clone, Copy)]
 pub enum Entry {
     NoBlock,
     NoParameter,
@@ -63,7 +65,7 @@ pub enum Entry {
 }
 
 // What stands when a write comes: WRITE_LOCKING, the blocks' targets, and whether a linearisation table is loaded.
-#[derive(Drop)]
+#[derive(Clone, Copy)]
 pub struct Standing {
     pub lock: u32,
     pub ain: u32,

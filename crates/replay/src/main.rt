@@ -1,6 +1,8 @@
 // Makes the calls of a call script, read from standard input, on one device, and writes a line of answer for each to
 // standard output. It holds a chunk of input, one line and the answers not yet written, whatever the input's length.
 // With --summary it tells on standard error, once all is read and written, what was answered.
+#![tactic(auto)]
+
 mod summary;
 
 ghost use Rattle.std.specs.Prelude.{◌≤◌, ◌<◌};
@@ -14,7 +16,7 @@ use summary::{Counts, Fails};
 use wire::{Discrete, Pair, Refusal};
 
 // The device after a call, the call's answer, the place after it, and which blocks were in fail-safe, if it was a tick.
-#[derive(Drop)]
+#[derive(Clone, Copy)]
 struct Done {
     device: Device,
     answer: Answer,
@@ -23,7 +25,7 @@ struct Done {
 }
 
 // The device, how many bytes of a line and of answers are held, whether input could be read and answers written, and the counts.
-#[derive(Drop)]
+#[derive(Clone, Copy)]
 struct State {
     device: Device,
     length: usize,
@@ -34,7 +36,7 @@ struct State {
 }
 
 // The state after a chunk of input, and whether there is more.
-#[derive(Drop)]
+#[derive(Clone, Copy)]
 struct Turn {
     state: State,
     more: bool,
@@ -93,7 +95,7 @@ fn answered(call: Answered, out: &mut [u8], at: usize) -> Done {
 }
 
 // What a tick is fed.
-#[derive(Drop)]
+#[derive(Clone, Copy)]
 struct Fed {
     ain: Pair,
     tot: Pair,
@@ -114,7 +116,7 @@ fn tick(d: Device, fault: bool, fed: Fed, out: &mut [u8], at: usize) -> Done {
 }
 
 // Where the bytes of a line go: to a setpoint input, or into AIN's table.
-#[derive(Drop)]
+#[derive(Clone, Copy)]
 enum To {
     Input(u8),
     Table,
@@ -464,7 +466,7 @@ fn replay(input: &mut [u8], line: &mut [u8], out: &mut [u8]) -> State {
 
 // ---- arguments
 
-#[derive(Drop)]
+#[derive(Clone, Copy)]
 enum Asked {
     Answers,
     Summary,

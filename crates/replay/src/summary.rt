@@ -9,7 +9,7 @@ use script::Answer;
 use wire::{Discrete, Pair};
 
 // Refusals are numbered from 1 on; a larger number than the array has places for would be counted in its place 0.
-#[derive(Drop)]
+#[derive(Clone, Copy)]
 pub struct Counts {
     pub lines: u64,
     pub calls: u64,
@@ -111,7 +111,7 @@ fn dout_fails(d: Device, fault: bool) -> bool {
 }
 
 // Which blocks go by their fail-safe in a tick.
-#[derive(Drop)]
+#[derive(Clone, Copy)]
 pub struct Fails {
     pub ain: bool,
     pub ao: bool,

@@ -1,9 +1,11 @@
 // Scaling by two ends, shared by AIN and AO (document 01, AIN tick and AO tick).
+#![tactic(auto)]
+
 ghost use Rattle.std.specs.Prelude.{◌≡◌};
 ghost use Rattle.scaling.specs.Scaling.{fraction_of, at_fraction, allowed_scale};
 
 #[repr(C)]
-#[derive(Drop)]
+#[derive(Clone, Copy)]
 pub struct Scale {
     pub low: f32,
     pub high: f32,

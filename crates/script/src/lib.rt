@@ -1,4 +1,6 @@
 // The call script: what a line asks for, and the line that answers it. Text is bytes.
+#![tactic(auto)]
+
 mod answers;
 mod words;
 
@@ -9,7 +11,7 @@ ghost use Rattle.script.specs.Command.{name_of, alone_call, tick_call, telegram_
 pub use answers::put_answer;
 
 // What a line asks for.
-#[derive(Drop)]
+#[derive(Clone, Copy)]
 pub enum Command {
     // A line that gets no answer.
     Nothing,
@@ -56,7 +58,7 @@ pub enum Command {
 }
 
 // A drive order: AO's position is a float by its bits, DO's a discrete value.
-#[derive(Drop)]
+#[derive(Clone, Copy)]
 pub enum Order {
     Position(u32),
     PositionD(u8),
@@ -65,7 +67,7 @@ pub enum Order {
 }
 
 // What a call is answered. The bytes of `Bytes` are lent beside it.
-#[derive(Drop)]
+#[derive(Clone, Copy)]
 pub enum Answer {
     Nothing,
     Ok,
@@ -79,7 +81,7 @@ pub enum Answer {
 }
 
 // The first word of a line.
-#[derive(Drop)]
+#[derive(Clone, Copy)]
 pub enum Name {
     Factory,
     Tick,

@@ -5,7 +5,7 @@ ghost use Rattle.script.specs.Words.{some, words_of, is_empty, between, NextWord
 use text::Number;
 
 // A word's place in its line.
-#[derive(Drop)]
+#[derive(Clone, Copy)]
 pub struct Place {
     pub from: usize,
     pub to: usize,

@@ -2,6 +2,8 @@
 //
 // Each `put_..` writes at `at` and gives the place after what it wrote. Where that does not fit, it writes nothing and
 // gives the buffer's length plus 1, a place where nothing fits any more: so a row of puts is tested once, at its end.
+#![tactic(auto)]
+
 ghost use Rattle.std.specs.Prelude.{◌≡◌, ◌+◌, ◌%◌, ◌≤◌, ◌<◌, length, drop, nat_abs};
 ghost use Rattle.text.specs.Place.{place_after, bytes_put, replaced};
 ghost use Rattle.text.specs.Number.{digit_value, digits_number, word_number, number_in};
@@ -144,7 +146,7 @@ pub fn put_signed(buf: &mut [u8], at: usize, z: i64) -> usize
 }
 
 // What a word stands for.
-#[derive(Drop)]
+#[derive(Clone, Copy)]
 pub enum Number {
     Value(u64),
     Not,

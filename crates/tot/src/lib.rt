@@ -1,4 +1,6 @@
 // TOT, the totalizer: its settings, its state and its tick (document 01, TOT tick and Mode).
+#![tactic(auto)]
+
 ghost use Rattle.std.specs.Prelude.{◌≡◌};
 ghost use Rattle.tot.specs.Total.{increment_of, wanted, thousandths_of, given_bits, next_total};
 ghost use Rattle.tot.specs.Tick.{fail_rate, added_rate, adds, last_rate, fail_status, auto_status, auto_tick, man_tick, out_of_service_tick, tick_of};
@@ -18,7 +20,7 @@ const TOTAL_LIMIT: i64 = 1_000_000_000_000;
 
 // The stored parameters.
 #[repr(C)]
-#[derive(Drop)]
+#[derive(Clone, Copy)]
 pub struct Settings {
     pub target: u32,
     pub set_tot: u32,
@@ -29,7 +31,7 @@ pub struct Settings {
 
 // The total, and what ticks and the operator change.
 #[repr(C)]
-#[derive(Drop)]
+#[derive(Clone, Copy)]
 pub struct State {
     // In thousandths.
     pub total: i64,

@@ -1,6 +1,8 @@
 // Ticks of TOT worked from document 01, one line each: fault flag, transducer's bits and status, then total, bits and status
 // given, actual mode. What it would catch: an increment rounded down, a limit or a sign lost, 23 or 25 bits kept, a status of
 // another case, a total moved in Man or O/S, a rate remembered from the wrong tick.
+#![tactic(auto)]
+
 use tot::{Settings, State};
 
 const OUT: i32 = 1;

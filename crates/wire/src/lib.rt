@@ -1,5 +1,7 @@
 // Paper 01's wire form: the status byte, a value as five bytes, the bus image and one block's part of it, and the
 // numbers of refused calls; with paper 02, request 3, a discrete value as two bytes.
+#![tactic(auto)]
+
 pub mod status;
 
 ghost use Rattle.std.specs.Prelude.{◌≡◌};
@@ -10,7 +12,7 @@ ghost use Rattle.wire.specs.Image.{image_answer, image_bytes, part_of, part_plac
 
 // A value by the 32 bits of its float, and its status.
 #[repr(C)]
-#[derive(Drop)]
+#[derive(Clone, Copy)]
 pub struct Pair {
     pub bits: u32,
     pub status: u8,
@@ -18,14 +20,14 @@ pub struct Pair {
 
 // A discrete value and its status.
 #[repr(C)]
-#[derive(Drop)]
+#[derive(Clone, Copy)]
 pub struct Discrete {
     pub value: u8,
     pub status: u8,
 }
 
 // The grounds of refusal, in the order of their numbers.
-#[derive(Drop)]
+#[derive(Clone, Copy)]
 pub enum Refusal {
     NoSuchBlock,
     NoSuchParameter,
@@ -40,21 +42,21 @@ pub enum Refusal {
 }
 
 // What a call answers where it gives no value.
-#[derive(Drop)]
+#[derive(Clone, Copy)]
 pub enum Answer {
     Accepted,
     Refused(Refusal),
 }
 
 // What five bytes stand for.
-#[derive(Drop)]
+#[derive(Clone, Copy)]
 pub enum Received {
     Value(Pair),
     Refused(Refusal),
 }
 
 // What two bytes stand for.
-#[derive(Drop)]
+#[derive(Clone, Copy)]
 pub enum DiscreteReceived {
     Value(Discrete),
     Refused(Refusal),

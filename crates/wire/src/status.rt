@@ -2,7 +2,7 @@
 ghost use Rattle.std.specs.Prelude.{◌≡◌};
 ghost use Rattle.wire.specs.Status.{split_of, built_of, quality_case, limits_case, quality_number, limits_number};
 
-#[derive(Drop)]
+#[derive(Clone, Copy)]
 pub enum Quality {
     Bad,
     Uncertain,
@@ -10,7 +10,7 @@ pub enum Quality {
     GoodCascade,
 }
 
-#[derive(Drop)]
+#[derive(Clone, Copy)]
 pub enum Limits {
     Unlimited,
     Low,
@@ -18,7 +18,7 @@ pub enum Limits {
     Constant,
 }
 
-#[derive(Drop)]
+#[derive(Clone, Copy)]
 pub struct Status {
     pub quality: Quality,
     pub sub_status: u8,

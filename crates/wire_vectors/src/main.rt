@@ -2,6 +2,8 @@
 // It would show a status byte cut at the wrong bits, a byte order turned round, a NaN's or a zero's bits changed on the
 // way, a byte written outside the five, the two or the nineteen, a part of the wrong block, and a refusal under a wrong
 // number.
+#![tactic(auto)]
+
 use libc::STDOUT_FILENO;
 use wire::status::{Limits, Quality, Status};
 use wire::{Answer, Discrete, DiscreteReceived, Pair, Received, Refusal};
