@@ -35,7 +35,7 @@ pub loop-i-preserved : goal.loop-i-preserved
 loop-i-preserved c =
     let l = c.loop-i in
     let a = c.args in
-    let full : length a.points ≡ 21 = (let w = c.well_formed in ?) in
+    let full : length a.points ≡ 21 = c.well_formed.0.1.0.1 in
     let ps = take a.n a.points in
     let k = get_or-take a.n a.points l.i unwritten (omega arith) in (
       omega arith,

@@ -14,16 +14,16 @@ returns-in-NoParameter c = rw (← c.entry_of-entry.ensures, c.in-NoParameter.is
 
 pub returns-in-S : goal.returns-in-S
 unfolding is_static
-returns-in-S c = rw (← c.entry_of-entry.ensures, c.in-S.is, c.in-S.is)
+returns-in-S c = rw (← c.entry_of-entry.ensures, c.in-Parameter.is, c.in-S.is)
 
 pub returns-in-N : goal.returns-in-N
 unfolding is_static
-returns-in-N c = rw (← c.entry_of-entry.ensures, c.in-N.is, c.in-N.is)
+returns-in-N c = rw (← c.entry_of-entry.ensures, c.in-Parameter.is, c.in-N.is)
 
 pub returns-in-D : goal.returns-in-D
 unfolding is_static
-returns-in-D c = rw (← c.entry_of-entry.ensures, c.in-D.is, c.in-D.is)
+returns-in-D c = rw (← c.entry_of-entry.ensures, c.in-Parameter.is, c.in-D.is)
 
 pub returns-in-R : goal.returns-in-R
 unfolding is_static
-returns-in-R c = rw (← c.entry_of-entry.ensures, c.in-R.is, c.in-R.is)
+returns-in-R c = rw (← c.entry_of-entry.ensures, c.in-Parameter.is, c.in-R.is)

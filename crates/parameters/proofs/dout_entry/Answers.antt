@@ -7,8 +7,8 @@ use Rattle.parameters.proofs.dout_entry.Goals as goal
 
 pub returns-in-22 : goal.returns-in-22
 unfolding discrete dout entry_in
-returns-in-22 c = rw c.in-22.keys1
+returns-in-22 c = rw c.in-22.is
 
 pub returns-in_default : goal.returns-in_default
 unfolding discrete dout entry_in
-returns-in_default c = rw (c.discrete_entry.ensures, ne_eqb _ 22 c.in_default.rest.1)
+returns-in_default c = rw (c.discrete_entry.ensures, ne_eqb _ 22 c.in_default.in_default-own.rest.1)
