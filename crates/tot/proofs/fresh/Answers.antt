@@ -1,0 +1,6 @@
+-- `tot::fresh` is right: the record is the definition's.
+use borrow.Author.Rules.{rules}
+use Rattle.tot.proofs.fresh.Goals as goal
+
+pub returns : goal.returns
+returns c = rw c.nothing-none.ensures

@@ -1,0 +1,37 @@
+-- `wire::put` meets its contract: five stores in a row are the five bytes in the place of those that stood there, `lib.Seq`'s `sets-eq`.
+use native.Mathlib.Omega.{arith}
+use native.Mathlib.Numerals.{add-one, add-two, add-three, add-four}
+use mathlib.Core.Path.{sym, ◌∙◌}
+use lib.ListN.{length-set}
+use lib.Seq.{sets-eq}
+use Rattle.wire.specs.Bytes.{five_bytes}
+use Rattle.wire.specs.Laws.{placed-accepted, placed-refused}
+use borrow.Author.Rules.{rules}
+use Rattle.wire.proofs.put.Goals as goal
+
+pub returns-then-buf-lt5 : goal.returns-then-buf-lt5
+returns-then-buf-lt5 c = let a = c.args in
+    let kept = placed-refused a.buf.now a.at (five_bytes a.pair) (omega arith) in
+    record { value = sym kept.0; buf_after = sym kept.1 }
+
+pub returns-then-at-buf : goal.returns-then-at-buf
+returns-then-at-buf c = let a = c.args in
+    let kept = placed-refused a.buf.now a.at (five_bytes a.pair) (omega arith) in
+    record { value = sym kept.0; buf_after = sym kept.1 }
+
+pub bounds-buf-at-2 : goal.bounds-buf-at-2
+bounds-buf-at-2 c = simp length-set (omega arith)
+
+pub bounds-buf-at-3 : goal.bounds-buf-at-3
+bounds-buf-at-3 c = simp length-set (omega arith)
+
+pub bounds-buf-at-4 : goal.bounds-buf-at-4
+bounds-buf-at-4 c = simp length-set (omega arith)
+
+pub bounds-buf-at-5 : goal.bounds-buf-at-5
+bounds-buf-at-5 c = simp length-set (omega arith)
+
+pub returns : goal.returns
+returns c = let a = c.args in
+    let given = placed-accepted a.buf.now a.at (five_bytes a.pair) (omega arith) in
+    record { value = sym given.0; buf_after = simp (add-one, add-two, add-three, add-four) (sets-eq (five_bytes a.pair) a.buf.now a.at (omega arith)) ∙ sym given.1 }
