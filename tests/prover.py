@@ -211,7 +211,9 @@ def linked(folder, to):
 
 
 def lanes():
-    """How many checks at a time: one a processor, and each may take some 3 GB."""
+    """How many checks at a time: as many as RT_JOBS says, or one a processor, where each may take some 3 GB."""
+    if os.environ.get("RT_JOBS", "").isdigit():
+        return max(1, int(os.environ["RT_JOBS"]))
     free = re.search(r"^MemAvailable:\s+(\d+)", read("/proc/meminfo"), re.M)
     return max(1, min(len(os.sched_getaffinity(0)), int(free[1]) // 3_000_000 if free else 2))
 
@@ -259,7 +261,7 @@ class Bench:
                     shutil.rmtree(modules, ignore_errors=True)
             os.makedirs(modules, exist_ok=True)
             build = [] if crate in STATIC else ["-o", os.path.join(self.rlibs, crate + ".rlib")]
-            report = self.run(folder, crate, [crate], modules, "build" if build else "check", ["--jobs", "2", *build])
+            report = self.run(folder, crate, [crate], modules, "build" if build else "check", ["--jobs", str(min(2, lanes())), *build])
             if not report.proved:
                 sys.stdout.write(report.log)
                 raise Stop("%s does not prove as it is, so a change shows nothing: %s" % (crate, report.last()))
@@ -318,7 +320,7 @@ class Bench:
                 incremental = os.path.join(folder, ".incremental")
                 for crate in sources:
                     linked(self.modules(crate), incremental)
-                report = self.run(folder, top, sources, incremental, more=("--jobs", "2"))
+                report = self.run(folder, top, sources, incremental, more=("--jobs", str(min(2, lanes()))))
                 if not report.proved:
                     raise Stop("%s does not prove without a change: %s" % (top, report.last()))
                 self.bases[key] = incremental
