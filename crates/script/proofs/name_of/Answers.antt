@@ -16,88 +16,44 @@ returns-then-same-2 c =
 pub returns-then-same-3 : goal.returns-then-same-3
 unfolding name_of
 returns-then-same-3 c =
-    let c1 = c.before in
-    rw (told c1.before.same.ensures c1.if1.false, told c.same-2.ensures c.if-same-2.false, told c.same-3.ensures c.if-same-3.true)
+    rw (told c.same.ensures c.if-same.false, told c.same-2.ensures c.if-same-2.false, told c.same-3.ensures c.if-same-3.true)
 
 pub returns-then-same-4 : goal.returns-then-same-4
 unfolding name_of
 returns-then-same-4 c =
-    let c2 = c.before in
-    let c1 = c2.before.before.before in
-    rw (told c1.before.same.ensures c1.if1.false, told c2.before.same2.ensures c2.if2.false, told c.same-3.ensures c.if-same-3.false, told c.same-4.ensures c.if-same-4.true)
+    rw (told c.same.ensures c.if-same.false, told c.same-2.ensures c.if-same-2.false, told c.same-3.ensures c.if-same-3.false, told c.same-4.ensures c.if-same-4.true)
 
 pub returns-then-same-5 : goal.returns-then-same-5
 unfolding name_of
 returns-then-same-5 c =
-    let c3 = c.before in
-    let c2 = c3.before.before.before in
-    let c1 = c2.before.before.before in
-    rw (told c1.before.same.ensures c1.if1.false, told c2.before.same2.ensures c2.if2.false, told c3.before.same3.ensures c3.if3.false, told c.same-4.ensures c.if-same-4.false, told c.same-5.ensures c.if-same-5.true)
+    rw (told c.same.ensures c.if-same.false, told c.same-2.ensures c.if-same-2.false, told c.same-3.ensures c.if-same-3.false, told c.same-4.ensures c.if-same-4.false, told c.same-5.ensures c.if-same-5.true)
 
 pub returns-then-same-6 : goal.returns-then-same-6
 unfolding name_of
 returns-then-same-6 c =
-    let c4 = c.before in
-    let c3 = c4.before.before.before in
-    let c2 = c3.before.before.before in
-    let c1 = c2.before.before.before in
-    rw (told c1.before.same.ensures c1.if1.false, told c2.before.same2.ensures c2.if2.false, told c3.before.same3.ensures c3.if3.false, told c4.before.same4.ensures c4.if4.false, told c.same-5.ensures c.if-same-5.false, told c.same-6.ensures c.if-same-6.true)
+    rw (told c.same.ensures c.if-same.false, told c.same-2.ensures c.if-same-2.false, told c.same-3.ensures c.if-same-3.false, told c.same-4.ensures c.if-same-4.false, told c.same-5.ensures c.if-same-5.false, told c.same-6.ensures c.if-same-6.true)
 
 pub returns-then-same-7 : goal.returns-then-same-7
 unfolding name_of
 returns-then-same-7 c =
-    let c5 = c.before in
-    let c4 = c5.before.before.before in
-    let c3 = c4.before.before.before in
-    let c2 = c3.before.before.before in
-    let c1 = c2.before.before.before in
-    rw (told c1.before.same.ensures c1.if1.false, told c2.before.same2.ensures c2.if2.false, told c3.before.same3.ensures c3.if3.false, told c4.before.same4.ensures c4.if4.false, told c5.before.same5.ensures c5.if5.false, told c.same-6.ensures c.if-same-6.false, told c.same-7.ensures c.if-same-7.true)
+    rw (told c.same.ensures c.if-same.false, told c.same-2.ensures c.if-same-2.false, told c.same-3.ensures c.if-same-3.false, told c.same-4.ensures c.if-same-4.false, told c.same-5.ensures c.if-same-5.false, told c.same-6.ensures c.if-same-6.false, told c.same-7.ensures c.if-same-7.true)
 
 pub returns-then-same-8 : goal.returns-then-same-8
 unfolding name_of
 returns-then-same-8 c =
-    let c6 = c.before in
-    let c5 = c6.before.before.before in
-    let c4 = c5.before.before.before in
-    let c3 = c4.before.before.before in
-    let c2 = c3.before.before.before in
-    let c1 = c2.before.before.before in
-    rw (told c1.before.same.ensures c1.if1.false, told c2.before.same2.ensures c2.if2.false, told c3.before.same3.ensures c3.if3.false, told c4.before.same4.ensures c4.if4.false, told c5.before.same5.ensures c5.if5.false, told c6.before.same6.ensures c6.if6.false, told c.same-7.ensures c.if-same-7.false, told c.same-8.ensures c.if-same-8.true)
+    rw (told c.same.ensures c.if-same.false, told c.same-2.ensures c.if-same-2.false, told c.same-3.ensures c.if-same-3.false, told c.same-4.ensures c.if-same-4.false, told c.same-5.ensures c.if-same-5.false, told c.same-6.ensures c.if-same-6.false, told c.same-7.ensures c.if-same-7.false, told c.same-8.ensures c.if-same-8.true)
 
 pub returns-then-same-9 : goal.returns-then-same-9
 unfolding name_of
 returns-then-same-9 c =
-    let c7 = c.before in
-    let c6 = c7.before.before.before in
-    let c5 = c6.before.before.before in
-    let c4 = c5.before.before.before in
-    let c3 = c4.before.before.before in
-    let c2 = c3.before.before.before in
-    let c1 = c2.before.before.before in
-    rw (told c1.before.same.ensures c1.if1.false, told c2.before.same2.ensures c2.if2.false, told c3.before.same3.ensures c3.if3.false, told c4.before.same4.ensures c4.if4.false, told c5.before.same5.ensures c5.if5.false, told c6.before.same6.ensures c6.if6.false, told c7.before.same7.ensures c7.if7.false, told c.same-8.ensures c.if-same-8.false, told c.same-9.ensures c.if-same-9.true)
+    rw (told c.same.ensures c.if-same.false, told c.same-2.ensures c.if-same-2.false, told c.same-3.ensures c.if-same-3.false, told c.same-4.ensures c.if-same-4.false, told c.same-5.ensures c.if-same-5.false, told c.same-6.ensures c.if-same-6.false, told c.same-7.ensures c.if-same-7.false, told c.same-8.ensures c.if-same-8.false, told c.same-9.ensures c.if-same-9.true)
 
 pub returns-then-same-10 : goal.returns-then-same-10
 unfolding name_of
 returns-then-same-10 c =
-    let c8 = c.before in
-    let c7 = c8.before.before.before in
-    let c6 = c7.before.before.before in
-    let c5 = c6.before.before.before in
-    let c4 = c5.before.before.before in
-    let c3 = c4.before.before.before in
-    let c2 = c3.before.before.before in
-    let c1 = c2.before.before.before in
-    rw (told c1.before.same.ensures c1.if1.false, told c2.before.same2.ensures c2.if2.false, told c3.before.same3.ensures c3.if3.false, told c4.before.same4.ensures c4.if4.false, told c5.before.same5.ensures c5.if5.false, told c6.before.same6.ensures c6.if6.false, told c7.before.same7.ensures c7.if7.false, told c8.before.same8.ensures c8.if8.false, told c.same-9.ensures c.if-same-9.false, told c.same-10.ensures c.if-same-10.true)
+    rw (told c.same.ensures c.if-same.false, told c.same-2.ensures c.if-same-2.false, told c.same-3.ensures c.if-same-3.false, told c.same-4.ensures c.if-same-4.false, told c.same-5.ensures c.if-same-5.false, told c.same-6.ensures c.if-same-6.false, told c.same-7.ensures c.if-same-7.false, told c.same-8.ensures c.if-same-8.false, told c.same-9.ensures c.if-same-9.false, told c.same-10.ensures c.if-same-10.true)
 
 pub returns : goal.returns
 unfolding name_of
 returns c =
-    let c8 = c.before in
-    let c7 = c8.before.before.before in
-    let c6 = c7.before.before.before in
-    let c5 = c6.before.before.before in
-    let c4 = c5.before.before.before in
-    let c3 = c4.before.before.before in
-    let c2 = c3.before.before.before in
-    let c1 = c2.before.before.before in
-    rw (told c1.before.same.ensures c1.if1.false, told c2.before.same2.ensures c2.if2.false, told c3.before.same3.ensures c3.if3.false, told c4.before.same4.ensures c4.if4.false, told c5.before.same5.ensures c5.if5.false, told c6.before.same6.ensures c6.if6.false, told c7.before.same7.ensures c7.if7.false, told c8.before.same8.ensures c8.if8.false, told c.same-9.ensures c.if-same-9.false, told c.same-10.ensures c.if-same-10.false)
+    rw (told c.same.ensures c.if-same.false, told c.same-2.ensures c.if-same-2.false, told c.same-3.ensures c.if-same-3.false, told c.same-4.ensures c.if-same-4.false, told c.same-5.ensures c.if-same-5.false, told c.same-6.ensures c.if-same-6.false, told c.same-7.ensures c.if-same-7.false, told c.same-8.ensures c.if-same-8.false, told c.same-9.ensures c.if-same-9.false, told c.same-10.ensures c.if-same-10.false)

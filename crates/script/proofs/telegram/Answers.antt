@@ -12,31 +12,32 @@ use Rattle.script.specs.Command.{are_bytes, telegram_call}
 use Rattle.script.specs.Laws.{value-within, both_true}
 use Rattle.script.proofs.Told.{told}
 use Rattle.script.proofs.telegram.Goals as goal
+use Rattle.script.proofs.telegram.Goals.{After-are_bytes}
 
 -- the words after the name
-abbrev arguments : goal.After-are-bytes → List (List ℕ)
-arguments c = let a = c.before.before.before.before.before.before.args in words_of (drop a.at a.line.now)
+abbrev arguments : After-are_bytes → List (List ℕ)
+arguments c = let a = c.args in words_of (drop a.at a.line.now)
 
-test : (c : goal.After-are-bytes)
-    → (c.before.up_to_lem.result && leb c.before.before.count.result 64 && c.are-bytes.result)
+test : (c : After-are_bytes)
+    → (c.up_to.result && leb c.count-n.result 64 && c.are_bytes.result)
     ≡ (up_to 255 (number_of (first_of (arguments c))) && are_bytes 64 (rest_of (arguments c)))
 test c =
-    let w = c.before.before.before.before.next_word.ensures in
-    rw (and_assoc, c.are-bytes.ensures, c.before.up_to_lem.ensures, c.before.before.before.number.ensures, w.first, c.before.before.count.ensures, w.rest)
+    let w = c.next_word-w.ensures in
+    rw (and_assoc, c.are_bytes.ensures, c.up_to.ensures, c.number-input.ensures, w.first, c.count-n.ensures, w.rest)
 
 pub overflow_cast-result : goal.overflow_cast-result
 overflow_cast-result c =
-    let n = c.before in
+    let d = c.before.before in
     let ws = arguments d in
     let input = number_of (first_of ws) in
     let u = (both_true (up_to 255 input) (are_bytes 64 (rest_of ws)) (told (test d) c.if-good.true)).0 in
-    rw (c.value.ensures, n.number.ensures, n.before.next_word.ensures.first) (omega (arith, value-within 255 input u))
+    rw (c.value.ensures, c.number-input.ensures, c.next_word-w.ensures.first) (omega (arith, value-within 255 input u))
 
 pub returns-then-good : goal.returns-then-good
 unfolding telegram_call
 returns-then-good c =
     let w = c.next_word-w.ensures in
-    rw (told (test c.before) c.if-good.true, c.value.ensures, c.number-input.ensures, w.first, c.count-n.ensures, w.rest)
+    rw (told (test c.before.before) c.if-good.true, c.value.ensures, c.number-input.ensures, w.first, c.count-n.ensures, w.rest)
 
 pub returns : goal.returns
 unfolding telegram_call

@@ -12,4 +12,4 @@ returns c =
     let e = rw z at c.put_signed-b.ensures in
     let f = c.put_bytes.ensures in
     let d = c.put_bytes-a.ensures in
-    record { value = rw (f.value, e.0, e.1, d.value, d.buf_after); buf_after = rw (f.buf_after, e.0, e.1, d.value, d.buf_after) }
+    record { value = rw (f.value, e.value, e.buf_after, d.value, d.buf_after); buf_after = rw (f.buf_after, e.value, e.buf_after, d.value, d.buf_after) }

@@ -29,7 +29,7 @@ loop-i-preserved c =
     let l = c.loop-i in
     let n = c.args.count in
     let w = c.next_word-w.ensures in
-    let u = rw (c.number-n.ensures, w.first) at c.up_to_lem.ensures in
+    let u = rw (c.number-n.ensures, w.first) at c.up_to-fits.ensures in
     let m : n - l.i ≡ suc (n - (l.i + 1)) = omega arith in
     (omega arith, w.within, rw (and_assoc, w.rest, u) (rw m at l.invariant.2))
 

@@ -11,11 +11,11 @@ use Rattle.script.specs.Laws.{no_words, word-ends-past, word-counted}
 use Rattle.script.proofs.words.count.Goals as goal
 
 -- the word that a turn counts has a byte
-past : (c : goal.After-spaces-end2 invariant-loop decreases-loop) → c.before.before.before.loop.next < c.before.word-end.result
+past : (c : goal.After-spaces_end-next-in-loop-next) → c.loop-next.next < c.word_end-end.result
 past c =
-    let w = c.before.word-end.ensures in
-    let l = c.before.before.before.loop in
-    word-ends-past c.before.before.before.before.before.before.args.line.now l.next c.before.word-end.result w.0 (omega arith) l.invariant.2 w.2
+    let w = c.word_end-end.ensures in
+    let l = c.loop-next in
+    word-ends-past c.args.line.now l.next c.word_end-end.result w.0 (omega arith) l.invariant.2 w.2
 
 pub loop-next-init : goal.loop-next-init
 loop-next-init c =

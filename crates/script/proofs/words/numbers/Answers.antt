@@ -41,7 +41,7 @@ loop-i-preserved c =
     let ws = words_of (drop l.next a.line.now) in
     let n = c.number-n.ensures in
     let v = rw (n, w.first) at c.value.ensures in
-    let u = rw (n, w.first) at c.up_to_lem.ensures in
+    let u = rw (n, w.first) at c.up_to-fits.ensures in
     let h : l.i < length a.limits.now = omega arith in
     (omega arith, w.within, simp length-set (omega arith), rw (and_assoc, w.rest, u) (rw (fitting-at a.limits.now l.i ws h) at l.invariant.3), rw w.rest (filled_more word_value l.out (length a.limits.now) l.i c.value.result ws (omega arith) h v ∙ l.invariant.4))
 
