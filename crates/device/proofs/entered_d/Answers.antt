@@ -1,0 +1,13 @@
+-- `device::entered_d` meets its contract: the number picks whose pair it is.
+-- Assumes nothing.
+use Rattle.std.proofs.Common.{rules, ne_eqb}
+use Rattle.device.specs.Stored.{entered_by}
+use Rattle.device.proofs.entered_d.Goals as goal
+
+pub returns-in-5 : goal.returns-in-5
+unfolding entered_by
+returns-in-5 c = rw (c.operator_after_d.ensures, c.in-5.is)
+
+pub returns-in_default : goal.returns-in_default
+unfolding entered_by
+returns-in_default c = rw (ne_eqb _ 5 c.in_default.in_default-own.rest.1)

@@ -1,0 +1,10 @@
+-- `history::write_after` meets its contract: it is the answer of the device that `replay` hands back.
+-- Assumes nothing.
+use borrow.Author.Rules.{rules}
+use Rattle.history.proofs.After.{write-is}
+use Rattle.history.proofs.write_after.Goals as goal
+
+pub returns : goal.returns
+returns c =
+    let s = c.args.calls.now in
+    rw c.write-written.ensures (write-is s (λ i. (c.shared_slice_known-1.given i).fits) _ c.replay-replayed.ensures _ _ _ _)

@@ -1,0 +1,44 @@
+-- `script::telegram` meets its contract: its test is the definition's, and under it the input is a byte.
+use mathlib.Core.Path.{◌≡◌}
+use mathlib.Core.Bool.{◌&&◌, and_assoc}
+use mathlib.Core.List.{List}
+use Prim.Native.Nat.{ℕ}
+use native.Mathlib.Omega.{arith}
+use lib.ListN.{drop}
+use lib.Dec.{leb}
+use borrow.Author.Rules.{rules}
+use Rattle.script.specs.Words.{words_of, first_of, rest_of, number_of, up_to}
+use Rattle.script.specs.Command.{are_bytes, telegram_call}
+use Rattle.script.specs.Laws.{value-within, both_true}
+use Rattle.script.proofs.Told.{told}
+use Rattle.script.proofs.telegram.Goals as goal
+use Rattle.script.proofs.telegram.Goals.{After-are_bytes}
+
+-- the words after the name
+abbrev arguments : After-are_bytes → List (List ℕ)
+arguments c = let a = c.args in words_of (drop a.at a.line.now)
+
+test : (c : After-are_bytes)
+    → (c.up_to.result && leb c.count-n.result 64 && c.are_bytes.result)
+    ≡ (up_to 255 (number_of (first_of (arguments c))) && are_bytes 64 (rest_of (arguments c)))
+test c =
+    let w = c.next_word-w.ensures in
+    rw (and_assoc, c.are_bytes.ensures, c.up_to.ensures, c.number-input.ensures, w.first, c.count-n.ensures, w.rest)
+
+pub overflow_cast-result : goal.overflow_cast-result
+overflow_cast-result c =
+    let d = c.before.before in
+    let ws = arguments d in
+    let input = number_of (first_of ws) in
+    let u = (both_true (up_to 255 input) (are_bytes 64 (rest_of ws)) (told (test d) c.if-good.true)).0 in
+    rw (c.value.ensures, c.number-input.ensures, c.next_word-w.ensures.first) (omega (arith, value-within 255 input u))
+
+pub returns-then-good : goal.returns-then-good
+unfolding telegram_call
+returns-then-good c =
+    let w = c.next_word-w.ensures in
+    rw (told (test c.before.before) c.if-good.true, c.value.ensures, c.number-input.ensures, w.first, c.count-n.ensures, w.rest)
+
+pub returns : goal.returns
+unfolding telegram_call
+returns c = rw (told (test c.before) c.if-good.false)
