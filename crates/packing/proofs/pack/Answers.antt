@@ -13,7 +13,7 @@ unfolding pack_answer pack_bytes
 returns-then-room-lt-PACKED c =
     let a = c.args in
     let h = lt-leb 564 (length a.buf.now) (omega arith) in
-    (rw h, (rw h, unpack-pack c.args.d c.first_words-first.ensures.small c.ain_words-ain.ensures.small c.table_words-table.ensures.small c.tot_words-tot.ensures.small c.ao_words-ao.ensures.small c.di_words-di.ensures.small c.dout_words-dout.ensures.small))
+    record { value = rw h; buf_after = rw h; d_value = unpack-pack c.args.d c.first_words-first.ensures.small c.ain_words-ain.ensures.small c.table_words-table.ensures.small c.tot_words-tot.ensures.small c.ao_words-ao.ensures.small c.di_words-di.ensures.small c.dout_words-dout.ensures.small }
 
 pub put_words-requires-5 : goal.put_words-requires-5
 put_words-requires-5 c = omega (arith, c.if-room-lt-PACKED.false, c.buf-4-1.given, c.buf-3-1.given, c.buf-2-1.given, c.buf-1.given, c.ao_words-ao.type_inv)
@@ -35,7 +35,4 @@ unfolding pack_answer
 returns c =
     let a = c.args in
     let s = a.buf.now in
-    let h : 564 ≤ length s = omega (arith, c.if-room-lt-PACKED.false) in record { value = rw (le-leb 564 (length s) h); buf_after = (
-        pack-steps s a.d h c.first_words-first.ensures.value c.ain_words-ain.ensures.value c.table_words-table.ensures.value c.tot_words-tot.ensures.value c.ao_words-ao.ensures.value c.di_words-di.ensures.value c.dout_words-dout.ensures.value c.put_words.ensures c.put_words-2.ensures c.put_words-3.ensures c.put_words-4.ensures c.put_words-5.ensures c.put_words-6.ensures c.put_words-7.ensures,
-        unpack-pack c.args.d c.first_words-first.ensures.small c.ain_words-ain.ensures.small c.table_words-table.ensures.small c.tot_words-tot.ensures.small c.ao_words-ao.ensures.small c.di_words-di.ensures.small c.dout_words-dout.ensures.small,
-      ); d_value =  }
+    let h : 564 ≤ length s = omega (arith, c.if-room-lt-PACKED.false) in record { value = rw (le-leb 564 (length s) h); buf_after = pack-steps s a.d h c.first_words-first.ensures.value c.ain_words-ain.ensures.value c.table_words-table.ensures.value c.tot_words-tot.ensures.value c.ao_words-ao.ensures.value c.di_words-di.ensures.value c.dout_words-dout.ensures.value c.put_words.ensures c.put_words-2.ensures c.put_words-3.ensures c.put_words-4.ensures c.put_words-5.ensures c.put_words-6.ensures c.put_words-7.ensures; d_value = unpack-pack c.args.d c.first_words-first.ensures.small c.ain_words-ain.ensures.small c.table_words-table.ensures.small c.tot_words-tot.ensures.small c.ao_words-ao.ensures.small c.di_words-di.ensures.small c.dout_words-dout.ensures.small }

@@ -32,18 +32,14 @@ same_at [] i a b h = absurd (omega arith)
 same_at (p ∷ ps) zero a b h = refl
 same_at (p ∷ ps) (suc i) a b h = same_at ps i a b (omega arith)
 
-mapped : {A B : Type 0} (f : A → B) (l : List A) → length (map f l) ≡ length l
-mapped f [] = refl
-mapped f (a ∷ l) = ap suc (mapped f l)
-
-each-fit : (ps : List Point) (us : List Val) → shadow (each (P.the_field).row.Denot (P.the_field).row.own_val (map (P.the_field).into ps) us) → Fitting ps
+each-fit : (ps : List Point) (us : List Val) → shadow (each (P.the_row).Denot (P.the_row).own_val ps us) → Fitting ps
 each-fit [] us s = tt
 each-fit (p ∷ ps) [] s = absurd s
 each-fit (p ∷ ps) (u ∷ us) s = (passes (fits binary32 p.x) s.0.1.1.0.1, passes (fits binary32 p.y) s.0.1.1.1.0.1, each-fit ps us s.1)
 
 module _ (t : Table) (good : Is T.the_row t (LL.val T.the_type T'.the_laws t ∷ [])) where
   full : length t.points ≡ 21
-  full = sym (mapped _ t.points) ∙ (LL.owed T.the_type T'.the_laws t (LL.val T.the_type T'.the_laws t ∷ []) good).1.0.1.0.1
+  full = (LL.owed T.the_type T'.the_laws t (LL.val T.the_type T'.the_laws t ∷ []) good).1.0.1.0.1
   fitting : Fitting t.points
   fitting = let g = (LL.owed T.the_type T'.the_laws t (LL.val T.the_type T'.the_laws t ∷ []) good).1.0 in each-fit t.points g.0 g.1.1
 
@@ -89,7 +85,7 @@ loop-i-smaller c = omega arith
 
 pub loop-i-preserved : goal.loop-i-preserved
 loop-i-preserved c =
-    let t = c.args.t1 in
+    let t = c.args.t in
     let l = c.loop-i in
     let e = same_at t.points l.i unwritten zero_point (omega (arith, full t c.well_formed.0)) in
     (omega arith, rw (l.invariant.1, c.bits_of-x.ensures, c.bits_of-y.ensures, e, add-one l.i) (words-to-more t l.i (omega arith)))
@@ -97,7 +93,7 @@ loop-i-preserved c =
 pub returns : goal.returns
 unfolding table_words
 returns c =
-    let t = c.args.t1 in
+    let t = c.args.t in
     let l = c.loop-i in
     let i : l.i ≡ 21 = omega arith in
     let all : words_to 21 t ≡ table_words t = ap (λ (ws : List ℕ). t.count ∷ ws) (append-nil (point_words 21 0 t.points)) in

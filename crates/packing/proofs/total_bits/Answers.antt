@@ -30,7 +30,7 @@ module _ (c : goal.Then-z-lt0) where
   abbrev z : ℤ
   z = c.before.args.z
   negative : (n : ℕ) × (2 ^ 64 - 1 - n ≡ twos z) × (to_z w64 (2 ^ 64 - 1 - of_z w64 z) ≡ pos n) × (n < 2 ^ 63)
-  negative = let f = c.before.ranges.z in flipped z f (rw (to_z-of_z w64 z f) at c.if1.true)
+  negative = let f = c.before.ranges.z in flipped z f (rw (to_z-of_z w64 z f) at c.if-z-lt0.true)
 
 pub overflow_cast-result : goal.overflow_cast-result
 overflow_cast-result c = let h = negative c in let l = h.3 in rw h.2 (tt, omega arith)

@@ -18,21 +18,21 @@ said s r e = (e, subst (λ (x : Unpacked). x.answer ≡ 0 → packed_of x.device
 pub returns-then-bytes-ne-PACKED : goal.returns-then-bytes-ne-PACKED
 returns-then-bytes-ne-PACKED c =
     let s = c.args.bytes.now in
-    said s _ (c.refused.ensures ∙ sym (unpack-length s c.if-bytes-ne-PACKED.true))
+    let p = said s _ (c.refused.ensures ∙ sym (unpack-length s c.if-bytes-ne-PACKED.true)) in record { value = p.0; device_value = p.1 }
 
 pub returns-then-same : goal.returns-then-same
 returns-then-same c =
     let s = c.args.bytes.now in
     let l : length s ≡ 564 = c.if-bytes-ne-PACKED.false in
     let d = c.device_at-device.ensures in
-    let p = c.pack.ensures.buf_after.0 ∙ pack-exact (replicate 564 0) c.device_at-device.result refl in
-    said s _ (ap accepted d ∙ sym (unpack-yes s l (c.same-same.ensures.0 c.if-same.true ∙ p ∙ ap packed_of d)))
+    let packed = c.pack.ensures.buf_after ∙ pack-exact (replicate 564 0) c.device_at-device.result refl in
+    let p = said s _ (ap accepted d ∙ sym (unpack-yes s l (c.same-same.ensures.0 c.if-same.true ∙ packed ∙ ap packed_of d))) in record { value = p.0; device_value = p.1 }
 
 pub returns : goal.returns
 returns c =
     let s = c.args.bytes.now in
     let l : length s ≡ 564 = c.if-bytes-ne-PACKED.false in
     let d = c.device_at-device.ensures in
-    let p = c.pack.ensures.buf_after.0 ∙ pack-exact (replicate 564 0) c.device_at-device.result refl in
-    let other : s ≡ packed_of (device_of (words_in s)) → ⊥ = λ q. true≢false (sym (c.same-same.ensures.1 (q ∙ ap packed_of (sym d) ∙ sym p)) ∙ c.if-same.false) in
-    said s _ (c.refused-2.ensures ∙ sym (unpack-no s l other))
+    let packed = c.pack.ensures.buf_after ∙ pack-exact (replicate 564 0) c.device_at-device.result refl in
+    let other : s ≡ packed_of (device_of (words_in s)) → ⊥ = λ q. true≢false (sym (c.same-same.ensures.1 (q ∙ ap packed_of (sym d) ∙ sym packed)) ∙ c.if-same.false) in
+    let p = said s _ (c.refused-2.ensures ∙ sym (unpack-no s l other)) in record { value = p.0; device_value = p.1 }
