@@ -1,26 +1,21 @@
 -- `script::read` meets its contract: `numbers` tells whether the words fit and gives their values, which are within their limits.
-use Rattle.script.proofs.Told.{told}
+use Rattle.script.proofs.Told.{told, within}
 use Rattle.script.specs.Command.{read_call}
 use Prim.Native.Nat.{ℕ, ◌≤◌, ◌<◌}
 use native.Mathlib.Omega.{arith}
 use lib.ListN.{length, get_or}
 use mathlib.Core.List.{List, [], ◌∷◌}
-use Rattle.script.specs.Laws.{fitting-within}
 use borrow.Author.Rules.{rules}
 use Rattle.script.proofs.read.Goals as goal
 
 abbrev limits : List ℕ
 limits = 255 ∷ 255 ∷ []
 
--- each value is within its limit
-within : (c : goal.Then-good) (k : ℕ) → k < length limits → get_or c.before.before.numbers.new.1.1.1.0 k 0 ≤ get_or limits k 0
-within c k h = rw c.before.before.numbers.ensures.1 (fitting-within limits _ k (told c.before.before.numbers.ensures.0 c.if1.true) h)
-
 pub overflow_cast-result : goal.overflow_cast-result
-overflow_cast-result c = omega (arith, within c 0 (omega arith))
+overflow_cast-result c = omega (arith, within limits _ c.numbers-good.new.out c.numbers-good.result c.numbers-good.ensures.out_after c.numbers-good.ensures.value c.if-good.true 0 (omega arith))
 
 pub overflow_cast-result-then-good : goal.overflow_cast-result-then-good
-overflow_cast-result-then-good c = omega (arith, within c 1 (omega arith))
+overflow_cast-result-then-good c = omega (arith, within limits _ c.numbers-good.new.out c.numbers-good.result c.numbers-good.ensures.out_after c.numbers-good.ensures.value c.if-good.true 1 (omega arith))
 
 pub returns-then-good : goal.returns-then-good
 unfolding read_call

@@ -1,6 +1,6 @@
 -- `script::telegram` meets its contract: its test is the definition's, and under it the input is a byte.
 use mathlib.Core.Path.{◌≡◌}
-use mathlib.Core.Bool.{◌&&◌, and_assoc}
+use mathlib.Core.Bool.{Bool, ◌&&◌, and_assoc}
 use mathlib.Core.List.{List}
 use Prim.Native.Nat.{ℕ}
 use native.Mathlib.Omega.{arith}
@@ -12,33 +12,37 @@ use Rattle.script.specs.Command.{are_bytes, telegram_call}
 use Rattle.script.specs.Laws.{value-within, both_true}
 use Rattle.script.proofs.Told.{told}
 use Rattle.script.proofs.telegram.Goals as goal
-use Rattle.script.proofs.telegram.Goals.{After-are_bytes}
 
 -- the words after the name
-abbrev arguments : After-are_bytes → List (List ℕ)
-arguments c = let a = c.args in words_of (drop a.at a.line.now)
+abbrev arguments : ℕ → List ℕ → List (List ℕ)
+arguments at line = words_of (drop at line)
 
-test : (c : After-are_bytes)
-    → (c.up_to.result && leb c.count-n.result 64 && c.are_bytes.result)
-    ≡ (up_to 255 (number_of (first_of (arguments c))) && are_bytes 64 (rest_of (arguments c)))
-test c =
-    let w = c.next_word-w.ensures in
-    rw (and_assoc, c.are_bytes.ensures, c.up_to.ensures, c.number-input.ensures, w.first, c.count-n.ensures, w.rest)
+-- what the definition tests
+abbrev wanted : ℕ → List ℕ → Bool
+wanted at line = up_to 255 (number_of (first_of (arguments at line))) && are_bytes 64 (rest_of (arguments at line))
 
 pub overflow_cast-result : goal.overflow_cast-result
 overflow_cast-result c =
-    let d = c.before.before in
-    let ws = arguments d in
+    let w = c.next_word-w.ensures in
+    let ws = arguments c.args.at c.args.line.now in
     let input = number_of (first_of ws) in
-    let u = (both_true (up_to 255 input) (are_bytes 64 (rest_of ws)) (told (test d) c.if-good.true)).0 in
-    rw (c.value.ensures, c.number-input.ensures, c.next_word-w.ensures.first) (omega (arith, value-within 255 input u))
+    let t : (c.up_to.result && leb c.count-n.result 64 && c.are_bytes.result) ≡ wanted c.args.at c.args.line.now =
+    rw (and_assoc, c.are_bytes.ensures, c.up_to.ensures, c.number-input.ensures, w.first, c.count-n.ensures, w.rest) in
+    let u = (both_true (up_to 255 input) (are_bytes 64 (rest_of ws)) (told t c.if-good.true)).0 in
+    rw (c.value.ensures, c.number-input.ensures, w.first) (omega (arith, value-within 255 input u))
 
 pub returns-then-good : goal.returns-then-good
 unfolding telegram_call
 returns-then-good c =
     let w = c.next_word-w.ensures in
-    rw (told (test c.before.before) c.if-good.true, c.value.ensures, c.number-input.ensures, w.first, c.count-n.ensures, w.rest)
+    let t : (c.up_to.result && leb c.count-n.result 64 && c.are_bytes.result) ≡ wanted c.args.at c.args.line.now =
+    rw (and_assoc, c.are_bytes.ensures, c.up_to.ensures, c.number-input.ensures, w.first, c.count-n.ensures, w.rest) in
+    rw (told t c.if-good.true, c.value.ensures, c.number-input.ensures, w.first, c.count-n.ensures, w.rest)
 
 pub returns : goal.returns
 unfolding telegram_call
-returns c = rw (told (test c.before) c.if-good.false)
+returns c =
+    let w = c.next_word-w.ensures in
+    let t : (c.up_to.result && leb c.count-n.result 64 && c.are_bytes.result) ≡ wanted c.args.at c.args.line.now =
+    rw (and_assoc, c.are_bytes.ensures, c.up_to.ensures, c.number-input.ensures, w.first, c.count-n.ensures, w.rest) in
+    rw (told t c.if-good.false)

@@ -54,7 +54,7 @@ returns-in-Bytes c =
 pub returns-in-Total : goal.returns-in-Total
 unfolding place_after_all all_put
 returns-in-Total c =
-    let t = c.answer-in-Total-1.given in
-    let z = to_z-of_z w64 t.0.0 (record { sfits = c.known_told-in-Total-1.given.0.1 }) in
+    let t = c.in-Total.is in
+    let z = to_z-of_z w64 c.in-Total.total (record { sfits = c.in-Total.known_told-in-Total-1-own.given.0.1 }) in
     let e = rw z at c.put_total.ensures in
-    record { value = rw t.1 e.0; buf_after = rw t.1 e.1 }
+    record { value = rw t e.value; buf_after = rw t e.buf_after }

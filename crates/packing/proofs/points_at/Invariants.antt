@@ -1,0 +1,16 @@
+use Prim.Native.Nat.{ℕ, ◌-◌, ◌≤◌}
+use mathlib.Core.Path.{◌≡◌, ap, ◌∙◌}
+use mathlib.Core.List.{append-nil}
+use native.Mathlib.Omega.{arith}
+use native.Mathlib.Numerals.{add-one}
+use Rattle.packing.specs.Words.{points}
+use Rattle.packing.specs.Packed.{words_in}
+use Rattle.packing.specs.Laws.{points_to, points-to-more}
+use borrow.Author.Rules.{rules}
+use Rattle.packing.proofs.points_at.Given as goal
+
+abbrev pub invariant-loop-n : goal.invariant-loop-n
+invariant-loop-n l = (l.n ≤ 21) × (l.points ≡ points_to l.n (words_in l.s) l.i)
+
+abbrev pub decreases-loop-n : goal.decreases-loop-n
+decreases-loop-n l = 21 - l.n

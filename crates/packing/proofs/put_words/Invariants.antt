@@ -1,0 +1,16 @@
+use Prim.Native.Nat.{◌+◌, ◌*◌, ◌≤◌, ◌-◌}
+use mathlib.Core.Path.{◌≡◌, refl, sym, ◌∙◌}
+use native.Mathlib.Omega.{arith}
+use native.Mathlib.Numerals.{add-one}
+use lib.ListN.{length, get_or, take}
+use lib.Seq.{take-length}
+use Rattle.wire.specs.Bytes.{replaced, word_bytes}
+use Rattle.packing.specs.Packed.{bytes_of}
+use Rattle.packing.specs.Laws.{put-none, put-more, replaced-length}
+use Rattle.packing.proofs.put_words.Given as goal
+
+abbrev pub invariant-loop-i : goal.invariant-loop-i
+invariant-loop-i l = (l.i ≤ length l.words) × (length l.buf ≡ length l.initial.buf) × (l.buf ≡ replaced l.initial.buf l.at (bytes_of (take l.i l.words)))
+
+abbrev pub decreases-loop-i : goal.decreases-loop-i
+decreases-loop-i l = length l.words - l.i
