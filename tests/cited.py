@@ -48,14 +48,14 @@ class Spec:
         self.names, self.modules = {}, {}  # a name in scope to the paths that it may stand for, and so a file's
         self.read(re.sub(r"(?m)(^|\s)--.*", "", text))
         crate, _, *parts = path[: -len(".antt")].split("/")
-        own = "Rattle·%s·specs.specs.%s." % (crate, ".".join(parts))
+        own = "Rattle.%s.specs.%s." % (crate, ".".join(parts))
         for definition in self.definitions.values():
             for name in definition.made:
                 self.bring(name, own + name)
 
     def bring(self, name, path):
         """Takes a name into scope; an operator also by its parts."""
-        for part in [name] + ([part for part in name.split("_") if part] if not name.startswith("«") else []):
+        for part in [name] + ([part for part in name.split("◌") if part] if not name.startswith("«") else []):
             self.names.setdefault(part, set()).add(path)
 
     def read(self, text):
@@ -113,7 +113,7 @@ class Spec:
     def paths_of(self, token):
         """What a word of the text may stand for, as paths; none for what is not in scope."""
         head, _, rest = token.partition(".")
-        if token.startswith("Rattle·"):
+        if token.startswith("Rattle."):
             return {token}
         return self.names.get(head, set()) | ({self.modules[head] + "." + rest} if rest and head in self.modules else set())
 
@@ -121,7 +121,7 @@ class Spec:
         """A definition as it is compared: its lines, and what the names in it stand for."""
         tokens = {token for piece in definition.pieces for token in definition.tokens(piece)}
         paths = sorted("%s is %s" % (token, path) for token in tokens for path in self.paths_of(token))
-        ways = [line for line in self.fixities if any(part in tokens for part in line.split()[-1].split("_") if part)]
+        ways = [line for line in self.fixities if any(part in tokens for part in line.split()[-1].split("◌") if part)]
         return "\n".join(" ".join(piece.split()) for piece in definition.pieces + ways + paths)
 
     def paths(self, definition, sure=False):
@@ -158,15 +158,16 @@ def specs():
 
 def labels_of(path, where):
     """What a path may name: labels, and for each whether a constructor is meant; none for what is not of the repository."""
-    if not path.startswith("Rattle·"):
+    whose = re.match(r"Rattle\.(\w+)\.", path)
+    if not whose or whose[1] not in prover.USES:
         return {}
-    match = re.fullmatch(r"Rattle·(\w+)(?:·specs)?\.specs\.(.+)", path)
+    match = re.fullmatch(r"Rattle\.(\w+)\.specs\.(.+)", path)
     if not match:
         raise Unread("crates/%s: a path of a form that is not read: %s" % (where, path))
     crate, parts = match[1], match[2].split(".")
     if parts[0] == "declared":
-        variants = "the-variants" in parts
-        return {"%s type %s" % (crate, "::".join(parts[1 : parts.index("the-variants") if variants else -1])): variants}
+        variants = "TheVariants" in parts
+        return {"%s type %s" % (crate, "::".join(parts[1 : parts.index("TheVariants") if variants else -1])): variants}
     for end in range(len(parts) - 1, 0, -1):
         spec, name = specs().get("%s/specs/%s.antt" % (crate, "/".join(parts[:end]))), parts[end]
         found = [definition.name for definition in spec.definitions.values() if name in definition.made] if spec else []

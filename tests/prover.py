@@ -1,7 +1,7 @@
 """The prover over scratch copies of crates: what tests/refusals and tests/mutants share.
 
-A check from nothing proves a whole crate again. Here a crate's copy has an incremental folder, made of the modules that
-`rt check` has just proved, so a change costs the modules that it touches. The checkout's crates are read and never
+A check from nothing proves a whole crate again. Here each crate has an incremental folder of its proved modules, made once in a
+run, and a change is checked over a copy of it, so it costs the modules that it touches. The checkout's crates are read and never
 written, and what a check of a change leaves behind is not used by the next one.
 """
 
@@ -15,6 +15,7 @@ import sys
 import tempfile
 import threading
 import time
+from concurrent.futures import ThreadPoolExecutor
 
 ROOT = os.path.dirname(os.path.dirname(os.path.abspath(__file__)))
 PARTS = ("src", "specs", "proofs")
@@ -44,16 +45,18 @@ def temporary():
 
 
 def read_crates():
-    """crates.txt: each crate with what it uses, in the file's order."""
-    uses = {}
+    """crates.txt: each crate with what it uses, in the file's order, and those that are static libraries."""
+    uses, static = {}, set()
     for line in read(os.path.join(ROOT, "crates.txt")).splitlines():
-        name, colon, rest = line.partition("#")[0].partition(":")
+        head, colon, rest = line.partition("#")[0].partition(":")
         if colon:
-            uses[name.strip()] = rest.split()
-    return uses
+            name, *words = head.split()
+            uses[name] = rest.split()
+            static.update([name] * ("staticlib" in words))
+    return uses, static
 
 
-USES = read_crates()
+USES, STATIC = read_crates()
 LIBRARIES = [crate for crate in USES if os.path.isfile(os.path.join(ROOT, "crates", crate, "src/lib.rt"))]
 
 
@@ -70,30 +73,44 @@ def below(crate):
 # ---- what a check says
 
 # An error that says no more than that a declaration rests on one which was refused.
-RESTS = re.compile(r"was not admitted \(it has holes|cannot be unfolded because it was not admitted")
-# A proof that cites what is not there any more, or whose parts are not those that are asked for, as told of the declaration that
-# puts them together: it shows nothing about the contract.
-UNNAMED = re.compile(r"^`[^`]*-spec`: |has no field `|can be named from here|not in scope|missing field\(s\) of|expected type `tie\.Need-")
+RESTS = re.compile(r"was not admitted|is not admitted|cannot be unfolded because it was not admitted")
+# A proof that cites what is not there any more: it shows nothing about the contract.
+UNNAMED = re.compile(r"has no field `|can be named from here|has no `|not in scope|is no name|missing field\(s\) of")
+# A text that cannot be read as the proof language.
+UNREAD = re.compile(r"is not in scope|has no field|is no name|operand is missing|expected the end|cannot continue")
 # The front end's errors have a code, as error[unknown-name]; antt's have none.
 ERROR = re.compile(r"(?P<crate>\w+)/(?P<file>\S+?):(?P<line>\d+):(?P<column>\d+): error(?P<code>\[\S+\])?: (?P<text>.*)")
+# The files of a function's proof.
+PROOF_FILES = ("Answers.antt", "Invariants.antt", "Proof.antt")
 
 
 class Error:
-    """One error: where it is, the declaration that it names, and its ground: rests, unnamed, code or fact."""
+    """One error: where it is, the declaration that it names, and its ground: code, unread, rests, unnamed or fact."""
 
     def __init__(self, match, more):
         self.crate, self.file, self.line, self.column = match["crate"], match["file"], int(match["line"]), int(match["column"])
         text = match["text"] + more
         name = re.match(r"`([^`]*)`: ", text)
         self.declaration = name[1] if name else "?"
-        self.ground = "code" if match["code"] else "rests" if RESTS.search(text) else "unnamed" if UNNAMED.search(text) else "fact"
-        self.text = text
         parts = self.file.split("/")
+        # what antt cannot read of a contract or a definition, and a fact of these that it refuses
+        stated, said = parts[0] in ("src", "specs"), re.sub(r"`[^`]*`", "", text)
+        if match["code"]:
+            self.ground = "code"
+        elif stated and (not name or UNREAD.search(said)):
+            self.ground = "unread"
+        else:
+            self.ground = "rests" if RESTS.search(text) else "unnamed" if UNNAMED.search(text) else "fact"
+        self.text = text
         # the function whose proof it stands in, as the report names functions
-        self.function = "::".join([self.crate] + parts[1:-1]) if parts[0] == "proofs" and parts[-1] == "Proof.antt" else None
+        self.function = "::".join([self.crate] + parts[1:-1]) if parts[0] == "proofs" and parts[-1] in PROOF_FILES else None
 
     def place(self):
         return "crates/%s/%s:%d %s" % (self.crate, self.file, self.line, self.declaration)
+
+
+# A goal that the proof which rattle makes itself does not close.
+OPEN = re.compile(r"did not prove (`.*)")
 
 
 class Report:
@@ -119,11 +136,12 @@ class Report:
         return next((line for line in lines if "error" in line), lines[-1])
 
     def facts(self, function=None):
-        """Where a fact fails: an error of a proof, or a need that the proof which rattle makes itself does not close."""
+        """Where a fact fails: an error of a proof, or a goal that the proof which rattle makes itself does not close."""
         places = [error.place() for error in self.errors if error.ground == "fact" and function in (None, error.function)]
         for name, verdict in self.functions.items():
-            if "does not close" in verdict and function in (None, name):
-                places.append("%s, need%s" % (name, verdict.partition("does not close")[2].partition(";")[0].replace("`", "")))
+            open_goals = OPEN.search(verdict)
+            if open_goals and function in (None, name):
+                places.append("%s, goal %s" % (name, open_goals[1].partition(";")[0].replace("`", "")))
         return places
 
     def stray(self, changed):
@@ -138,6 +156,9 @@ class Report:
         """Why a log without a failing fact shows nothing."""
         if self.proved:
             return "NOT REFUSED: still proved"
+        for error in self.errors:
+            if error.ground == "unread":
+                return "it cannot be read: " + error.place() + " " + error.text.partition("\n")[0]
         if not self.refused:
             return "it does not reach the prover: " + self.last()
         for error in unnamed or self.unnamed():
@@ -153,44 +174,67 @@ class Kit:
 
     def __init__(self):
         page = subprocess.run(["rt", "doc"], stdout=subprocess.PIPE, text=True, check=True).stdout.strip()
-        self.home = os.path.dirname(os.path.dirname(page))
-        self.own = os.path.join(self.home, "on", os.uname().machine)
+        self.home = os.path.dirname(os.path.realpath(page))
+        self.rattle = os.path.join(self.home, "bin/rattle")
 
-    def rlib(self, crate):
-        return os.path.join(ROOT if crate in USES else self.own, "target/rlib" if crate in USES else "rlib", crate + ".rlib")
-
-    def words(self, folder, top, sources, incremental):
-        """A check of the crate `top`, with the words that rt gives; the crates `sources` are passed as source."""
-        words = [os.path.join(self.own, "bin/rattle"), "check", "--crate-name", top, os.path.join(folder, top, "src/lib.rt")]
+    def words(self, folder, top, sources, rlibs):
+        """What names the crate `top` and what it uses, as rt does: the crates `sources` by their text, the others as built in `rlibs`."""
+        words = ["--crate-name", top, os.path.join(folder, top, "src/lib.rt")]
+        kept = {}  # what a crate names itself, without the crates that come as text
         for crate in sources:
+            used = ["core", "std"] + USES.get(crate, [])
+            kept[crate] = [name for name in used if name not in sources]
             if crate != top:
-                words += ["--lib", "%s=%s" % (crate, os.path.join(folder, crate, "src/lib.rt"))]
-        for crate in sorted({"std"}.union(*(USES.get(crate, []) for crate in sources)) - set(sources)):
-            words += ["--extern", "%s=%s" % (crate, self.rlib(crate))]
-        for place in (os.path.join(ROOT, "target/rlib"), os.path.join(self.own, "rlib")):
+                words += ["--lib", "%s:%s=%s" % (crate, ",".join(used), os.path.join(folder, crate, "src/lib.rt"))]
+        named = {"std"}.union(*kept.values()) - ({"core"} if len(sources) == 1 else set())
+        for name in sorted(named):
+            place = rlibs if name in USES else os.path.join(self.home, "rlibs")
+            words += ["--extern", "%s=%s" % (name, os.path.join(place, name + ".rlib"))]
+        for place in [rlibs, os.path.join(self.home, "rlibs")]:
             words += ["-L", "dependency=" + place]
-        words += ["--antt-project", os.path.join(self.home, "logic/antt-project.json"), "--logic-built", os.path.join(self.own, "logic-built")]
-        return words + ["--incremental", incremental]
+        words += ["--antt-project", os.path.join(self.home, "rattle/logic/antt-project.json")]
+        return words + ["--logic-built", os.path.join(self.home, "logic_built")] + ["--crate-type", "staticlib"] * (top in STATIC)
+
+
+def linked(folder, to):
+    """Copies proved modules by links, as far as they are files that a check replaces and never writes into."""
+
+    def copy(one, other):
+        if one.endswith(".oantt"):
+            try:
+                return os.link(one, other)
+            except OSError:
+                pass
+        return shutil.copy2(one, other)
+
+    shutil.copytree(folder, to, symlinks=True, copy_function=copy, dirs_exist_ok=True)
+
+
+def lanes():
+    """How many checks at a time: as many as RT_JOBS says, or one a processor, where each may take some 3 GB."""
+    if os.environ.get("RT_JOBS", "").isdigit():
+        return max(1, int(os.environ["RT_JOBS"]))
+    free = re.search(r"^MemAvailable:\s+(\d+)", read("/proc/meminfo"), re.M)
+    return max(1, min(len(os.sched_getaffinity(0)), int(free[1]) // 3_000_000 if free else 2))
 
 
 class Bench:
-    """A temporary folder with the crates as they are and, for each crate that is to be checked, its proved modules."""
+    """A temporary folder with the crates as they are: of each that is to be checked, and of those below, the proved modules and
+    the library that the crates above read. `anew`: without what `rt check` has kept in out/."""
 
-    def __init__(self, crates, proved=False):
+    def __init__(self, crates, anew=False):
         self.kit = Kit()
-        if not proved:
-            check = subprocess.run(["rt", "check", *crates], cwd=ROOT, stdout=subprocess.PIPE, stderr=subprocess.STDOUT, text=True)
-            if check.returncode != 0:
-                sys.stdout.write(check.stdout)
-                raise Stop("the crates do not prove as they are, so a change shows nothing")
-        missing = [crate for crate in crates if not os.path.isdir(self.kit.rlib(crate))]
-        if missing:
-            raise Stop("%s is not proved, so a change shows nothing" % missing[0])
         self.room = temporary()
         self.folder = self.room.name
+        self.rlibs = os.path.join(self.folder, "rlibs")
         self.bases, self.locks, self.seconds = {}, {}, {}
         self.running, self.stopped = set(), False
-        self.name_of_build = self.build()
+        os.makedirs(self.rlibs)
+        try:
+            self.prove([name for name in USES if name in set(crates).union(*map(below, crates))], anew)
+        except BaseException:
+            self.room.cleanup()
+            raise
 
     def __enter__(self):
         return self
@@ -198,16 +242,52 @@ class Bench:
     def __exit__(self, *_):
         self.room.cleanup()
 
+    def prove(self, crates, anew):
+        """Proves the crates as they stand, each after those that it uses."""
+        begun = {}
+
+        def one(crate):
+            for lower in below(crate):
+                begun[lower].result()
+            folder = os.path.join(self.folder, "base")
+            self.copy(folder, [crate])
+            kept = os.path.join(ROOT, "crates", crate, "out/incremental")
+            modules = self.modules(crate)
+            if os.path.isdir(kept) and not anew:
+                # (rt may write there meanwhile)
+                try:
+                    linked(kept, modules)
+                except (OSError, shutil.Error):
+                    shutil.rmtree(modules, ignore_errors=True)
+            os.makedirs(modules, exist_ok=True)
+            build = [] if crate in STATIC else ["-o", os.path.join(self.rlibs, crate + ".rlib")]
+            report = self.run(folder, crate, [crate], modules, "build" if build else "check", ["--jobs", str(min(2, lanes())), *build])
+            if not report.proved:
+                sys.stdout.write(report.log)
+                raise Stop("%s does not prove as it is, so a change shows nothing: %s" % (crate, report.last()))
+
+        with ThreadPoolExecutor(lanes()) as pool:
+            # a crate waits for those that were handed in before it alone
+            for crate in crates:
+                begun[crate] = pool.submit(one, crate)
+        failed = [it.exception() for it in begun.values() if it.exception()]
+        if failed:
+            raise failed[0]
+
+    def modules(self, crate):
+        return os.path.join(self.folder, "modules", crate)
+
     def stop(self):
         """Ends what runs, and nothing is begun any more."""
         self.stopped = True
         for check in list(self.running):
             check.kill()
 
-    def run(self, folder, top, sources, incremental):
-        words, environment = self.kit.words(folder, top, sources, incremental), dict(os.environ, TMPDIR=self.folder)
+    def run(self, folder, top, sources, incremental, verb="check", more=("--jobs", "1")):
+        words = [self.kit.rattle, verb, *self.kit.words(folder, top, sources, self.rlibs), "--incremental", incremental, *more]
         began = time.time()
-        check = subprocess.Popen(words, stdout=subprocess.PIPE, stderr=subprocess.STDOUT, stdin=subprocess.DEVNULL, env=environment)
+        environment = dict(os.environ, TMPDIR=self.folder)
+        check = subprocess.Popen(words, stdout=subprocess.PIPE, stderr=subprocess.STDOUT, stdin=subprocess.DEVNULL, env=environment, cwd=folder)
         self.running.add(check)
         try:
             log, status = check.communicate(timeout=LIMIT)[0], check.returncode
@@ -217,7 +297,7 @@ class Bench:
         self.running.discard(check)
         if self.stopped:
             raise Stop("stopped")
-        what = top if len(sources) == 1 else "%s with what it uses" % top
+        what = "%s as it is" % top if verb == "build" else top if len(sources) == 1 else "%s with what it uses" % top
         self.seconds.setdefault(what, []).append(time.time() - began)
         return Report(status, log.decode("utf-8", "replace"), folder)
 
@@ -229,31 +309,22 @@ class Bench:
                     shutil.copytree(source, os.path.join(folder, crate, part))
 
     def base(self, top, sources):
-        """The incremental folder of the unchanged crates; a check over it has to prove them."""
+        """The proved modules of the unchanged crates; a check over them, of several crates by their text, has to prove these."""
+        if len(sources) == 1:
+            return self.modules(top)
         key = (top, *sources)
         with self.locks.setdefault(key, threading.Lock()):
             if key not in self.bases:
                 folder = os.path.join(self.folder, "base-%s-%d" % (top, len(sources)))
                 self.copy(folder, sources)
                 incremental = os.path.join(folder, ".incremental")
-                modules = os.path.join(incremental, self.name_of_build)
-                os.makedirs(modules)
                 for crate in sources:
-                    shutil.copytree(os.path.join(self.kit.rlib(crate), "toolchain/checked"), modules, dirs_exist_ok=True)
-                report = self.run(folder, top, sources, incremental)
+                    linked(self.modules(crate), incremental)
+                report = self.run(folder, top, sources, incremental, more=("--jobs", str(min(2, lanes()))))
                 if not report.proved:
                     raise Stop("%s does not prove without a change: %s" % (top, report.last()))
                 self.bases[key] = incremental
             return self.bases[key]
-
-    def build(self):
-        """The name that this build of the prover gives to its folder in an incremental folder: seen with a crate of one line."""
-        folder = os.path.join(self.folder, "probe")
-        write(os.path.join(folder, "probe/src/lib.rt"), "pub fn one() -> u8 {\n    1\n}\n")
-        incremental = os.path.join(folder, ".incremental")
-        if not self.run(folder, "probe", ["probe"], incremental).proved:
-            raise Stop("the prover does not prove a crate of one line")
-        return os.listdir(incremental)[0]
 
 
 class Worker:
@@ -268,7 +339,7 @@ class Worker:
         self.bench.copy(self.folder, [crate for crate in sources if not os.path.isdir(os.path.join(self.folder, crate))])
         incremental = os.path.join(self.folder, ".incremental")
         shutil.rmtree(incremental, ignore_errors=True)
-        shutil.copytree(base, incremental, copy_function=os.link)
+        linked(base, incremental)
         before = {}
         for path, text in texts.items():
             place = os.path.join(self.folder, path)
@@ -284,8 +355,8 @@ class Worker:
                 write(place, text)
 
 
-def workers(bench, jobs, work, count=2):
-    """Has each job done by one of `count` workers: work(worker, job) answers further jobs, or None."""
+def workers(bench, jobs, work):
+    """Has each job done by a worker, as many as there is room for: work(worker, job) answers further jobs, or None."""
     waiting = queue.Queue()
     for job in jobs:
         waiting.put(job)
@@ -304,7 +375,7 @@ def workers(bench, jobs, work, count=2):
             except BaseException as error:
                 failed.append(error)
 
-    threads = [threading.Thread(target=run, args=(number,), daemon=True) for number in range(count)]
+    threads = [threading.Thread(target=run, args=(number,), daemon=True) for number in range(lanes())]
     for thread in threads:
         thread.start()
     try:

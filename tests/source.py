@@ -42,7 +42,7 @@ def function_at(path, start, end):
 def proof_of(path):
     """The function whose proof a file is, as `crate::module::name`; None for another file."""
     crate, *parts = path.split("/")
-    return "::".join([crate] + parts[1:-1]) if parts[0] == "proofs" and parts[-1] == "Proof.antt" else None
+    return "::".join([crate] + parts[1:-1]) if parts[0] == "proofs" and parts[-1] in prover.PROOF_FILES else None
 
 
 def difference(path, text):

@@ -1,8 +1,8 @@
 /* The head in a main loop: a thousand ticks with simulated transducers, a contact at the gate and a master whose telegrams stop
  * half-way.
  *
- *     rt staticlib capi
- *     gcc -Iinclude examples/c/main.c -Ltarget/staticlib -lcapi
+ *     (cd crates/capi && rt lib)
+ *     gcc -Iinclude examples/c/main.c -Lcrates/capi/out -lcapi
  */
 #include <inttypes.h>
 #include <stdio.h>

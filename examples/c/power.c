@@ -1,8 +1,8 @@
 /* A head that outlives a loss of power: it is saved in two slots in turn, cut off in the middle of a save, restored from
  * the slot that is whole, warm started, and goes on. docs/embedding.md says what to save and when.
  *
- *     rt staticlib capi
- *     gcc -Iinclude examples/c/power.c -Ltarget/staticlib -lcapi
+ *     (cd crates/capi && rt lib)
+ *     gcc -Iinclude examples/c/power.c -Lcrates/capi/out -lcapi
  *
  * Beside each step stands what it has to print and why. */
 #include <inttypes.h>

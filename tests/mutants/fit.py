@@ -1,78 +1,109 @@
-"""A fact for a mutant that is refused because its function's proof does not fit: it cites what the mutant no longer has.
+"""A fact for a change that is refused because its function's proof does not fit: it cites what the changed text no longer has.
 
-Two ways are tried. A form of the mutant that does the same and keeps the shape of the function, so that the proof as it is fits:
-a condition that never holds for a return that is dropped, the last arm's body for an arm, what stood there for an assignment. Or a
-proof whose parts are those that rattle asks for of the mutant, with the names of its steps.
+A goal and a step have the name of what stands in the code, as `returns-then-x-lt0` and `if-x-lt0` where it says `x < 0`. Where that is
+changed, the proof is tried by the names of the changed text. For a mutant two more ways are tried: a form of it that does the same and
+keeps the shape of the function, so that the proof as it is fits (a condition that never holds for a return that is dropped, the last
+arm's body for an arm, what stood there for an assignment); and the answers that fit alone, the others left to rattle's own search.
 """
 
+import difflib
 import os
 import re
-import textwrap
 
+import prover
 import source
 
 TURNS = 8  # how often a proof's names are mended
-# A step of a proof that the record at hand does not have.
-NO_FIELD = re.compile(r"record `[^`]*?(?:After-)?([^.`-][^.`]*)` has no field `([^`]+)`")
-# A part of a proof: a declaration whose type is a need.
-PART = re.compile(r"(\S+) : tie\.Need-")
+# A step of a proof that the record at hand does not have, with those that it may be now.
+NO_FIELD = re.compile(r"record `[^`]*` has no field `([^`]+)`(?: \(nearest: ([^)]+)\))?")
+# A goal that rattle does not ask for.
+NO_GOAL = re.compile(r"module `[^`]*\.(?:Goals|Given)` has no `([^`]+)`")
+ASKED = re.compile(r"^help: `(?:Goals|Given)` has no .*?; rattle asks for ([^;]*)", re.M)
+# An answer to a goal: a declaration whose type is one of the goals, with its definition.
+ANSWER = re.compile(r"(?:(?:pub|abbrev|unfoldable) )*(\S+) : goal\.(\S+)")
 
 
-def assembled(proof, log, path):
-    """A proof of the parts that rattle asks for: those that were there by their names, the others as rattle offers them."""
-    offer = re.search(r"^help: write %s with these lines.*\n((?:    .*\n)+)" % re.escape(path), log, re.M)
-    if not offer:
-        return None
-    offered = [part.strip("\n") for part in textwrap.dedent(offer[1]).replace(" = ?", " = search needs").split("\n\n")]
-    asked = {part[1] for part in map(PART.search, offered) if part}
-    there = [part.strip("\n") for part in proof.split("\n\n")]
-    had = {part[1] for part in map(PART.match, there) if part}
-    kept = [part for part in there if "-spec : " not in part and (not PART.match(part) or PART.match(part)[1] in asked)]
-    added = [part for part in offered if "-spec : " in part or (PART.search(part) and PART.search(part)[1] not in had)]
-    return "\n\n".join(["use borrow.Author.Needs.{needs}"] * ("Needs.{needs}" not in proof) + kept + added) + "\n"
+def files_of(function):
+    """The files of a function's proof that are there, as `crate/proofs/..`."""
+    crate, *path = function.split("::")
+    names = ["%s/proofs/%s/%s" % (crate, "/".join(path), file) for file in prover.PROOF_FILES]
+    return [name for name in names if os.path.isfile(source.place(name))]
 
 
-def named(line, at, call, missing, mutant):
-    """A line of a proof that names, at a place, a step which is missing where a call was made: the call that took its place, or the
-    line without it if it is gone, or else one step further back."""
-    old, new = [set(re.findall(r"(\w+)\(", text.replace("::", " "))) for text in (mutant.old, mutant.new)]
-    found, wanted = [re.sub(r"\d+$", "", name).replace("-", "_") for name in (call, missing)]
-    if found == wanted or (found in new and wanted in old):
-        return line[:at] + "." + call + line[at + 1 + len(missing) :]
-    if wanted in old and wanted not in new:
-        return re.sub(r"(← )?c( \.before)* \.%s \.ensures(, )?" % re.escape(missing), "", line).replace("c .before", "c").replace(", )", ")")
-    return line[:at] + ".before " + line[at:]
+def errors_in(report, path):
+    return [error for error in report.errors if "%s/%s" % (error.crate, error.file) == path]
 
 
-def mended(proof, errors, mutant):
-    """A proof by the names of the mutant, as far as errors tell what is missing; one in each declaration."""
-    lines = proof.split("\n")
-    for error in errors:
-        match, line, at = NO_FIELD.search(error.text), lines[error.line - 1], error.column - 1
-        if match and match[2] != "before" and line.startswith("." + match[2], at):
-            lines[error.line - 1] = named(line, at, *match.groups(), mutant)
-    return "\n".join(lines)
+def new_names(proof, report, path):
+    """The goals and steps that the changed text names otherwise: old name to new."""
+    asked = [name for names in ASKED.findall(report.log) for name in re.findall(r"`([^`]+)`", names)]
+    answered = {match[1] for match in map(ANSWER.match, proof.split("\n")) if match}
+    names = {}
+    for error in errors_in(report, path):
+        goal, step = NO_GOAL.search(error.text), NO_FIELD.search(error.text)
+        if goal:
+            open_ones = [name for name in dict.fromkeys(asked) if name not in answered and name not in names.values()]
+            names.update({goal[1]: name for name in difflib.get_close_matches(goal[1], open_ones, 1, 0.5)})
+        elif step and step[2]:
+            near = [name.strip(" .") for name in step[2].split(",")]
+            by_goal = [step[1].replace(old.partition("-then-")[2], new.partition("-then-")[2]) for old, new in names.items() if old.partition("-then-")[2]]
+            names.setdefault(step[1], next((name for name in by_goal if name in near), near[0]))
+    return names
+
+
+def renamed(proof, names):
+    return re.sub(r"(?<![\w'-])(%s)(?![\w'-])" % "|".join(map(re.escape, sorted(names, key=len, reverse=True))), lambda match: names[match[1]], proof) if names else proof
+
+
+def by_new_names(worker, top, sources, texts, function, report):
+    """The report on a change with the function's proof by the names of the changed text; the given report if no name is another's."""
+    for _ in range(TURNS):
+        mended = {}
+        for path in files_of(function):
+            proof = texts.get(path) or source.text_of(path)
+            mended[path] = renamed(proof, new_names(proof, report, path))
+        if all(mended[path] == (texts.get(path) or source.text_of(path)) for path in mended):
+            return report
+        texts = {**texts, **mended}
+        report = worker.check(top, sources, texts)
+        if report.proved or report.facts():
+            return report
+    return report
+
+
+def without(lines, at):
+    """The lines of a proof without the answer in which a line stands; as they are if it stands in none."""
+    start = next((line for line in range(at, -1, -1) if ANSWER.match(lines[line])), None)
+    if start is None:
+        return lines
+    end = next((line for line in range(start + 1, len(lines)) if not lines[line].strip()), len(lines))
+    return lines[:start] + lines[end + 1 :]
 
 
 def tries(worker, crate, mutant):
     """Reports on the mutant, each with the words for what was tried."""
-    texts = crate.texts([mutant], alike=bool(mutant.alike))
+    texts, sources = crate.texts([mutant], alike=bool(mutant.alike)), [crate.name]
+    report = worker.check(crate.name, sources, texts)
     if mutant.alike:
-        yield "in a form of the same shape", worker.check(crate.name, [crate.name], texts)
-    # with returns more or fewer, the parts of the proof would be those of other returns
+        yield "in a form of the same shape", report
+    # with returns more or fewer, the answers would be those of other returns
     elif mutant.kind == "branch" or mutant.old.count("return ") != mutant.new.count("return "):
         return
-    path = "%s/proofs/%s/Proof.antt" % (crate.name, mutant.function.replace("::", "/"))
-    if not os.path.isfile(source.place(path)):
+    function = crate.function(mutant)
+    paths = [path for path in files_of(function) if path.endswith("/Answers.antt")]
+    if not paths:
         return
-    report = worker.check(crate.name, [crate.name], {**texts, path: None})
-    if report.proved:
-        yield "without the function's proof", report
-    proof, last = assembled(source.text_of(path), report.log, path), None
+    bare = worker.check(crate.name, sources, {**texts, paths[0]: None})
+    if bare.proved:
+        yield "without the function's answers", bare
+    report = by_new_names(worker, crate.name, sources, texts, function, report)
+    yield "by the names of the mutant", report
+    proof = source.text_of(paths[0])
     for _ in range(TURNS):
-        if proof is None or proof == last:
+        errors = errors_in(report, paths[0])
+        fewer = "\n".join(without(proof.split("\n"), errors[0].line - 1)) if errors else proof
+        if fewer == proof:
             return
-        report = worker.check(crate.name, [crate.name], {**texts, path: proof})
-        yield "with a proof made to fit", report
-        last = proof
-        proof = mended(proof, [error for error in report.errors if "%s/%s" % (error.crate, error.file) == path], mutant)
+        proof = fewer
+        report = worker.check(crate.name, sources, {**texts, paths[0]: proof})
+        yield "with the answers that fit", report

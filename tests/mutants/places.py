@@ -150,7 +150,10 @@ class File(Reader):
                 self.items(*(home, name) if word == "impl" else (full,))
                 self.take("}")
             elif word == "use":
-                self.uses[home + "::" + (self.take().text if self.passes("as") else name.rpartition("::")[2])] = (home, name)
+                within = name.endswith("::{")
+                for _ in self.listed("}") if within else [0]:
+                    path = name[:-1] + self.path() if within else name
+                    self.uses[home + "::" + (self.take().text if self.passes("as") else path.rpartition("::")[2])] = (home, path)
                 self.take(";")
             else:  # a module's file, a type's other name, ghost use
                 self.past(";")

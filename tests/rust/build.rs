@@ -6,7 +6,7 @@ use std::{env, fs, path::Path};
 include!("slips.rs");
 
 fn main() {
-    let archive = fs::canonicalize("../../target/staticlib/libcapi.a").expect("made by `rt staticlib capi`");
+    let archive = fs::canonicalize("../../crates/capi/out/libcapi.a").expect("made by `rt lib` in crates/capi");
     println!("cargo:rerun-if-changed={}", archive.display());
     println!("cargo:rustc-link-search=native={}", archive.parent().expect("a folder").display());
     for file in ["src/model.rs", "slips.rs", "build.rs"] {

@@ -215,7 +215,8 @@ telegram-holds H false take state (accepted pair) h t = t pair
 -- ---- the count
 
 -- P13b: FSAFE_TIME is at most 65,535 ticks: the count that stops at 65,536 decides as the true one does.
-pub stopped-decides : (came : Bool) (n : ℕ) (ifs : Bool) (time : ℕ) → time ≤ 65535 → fail_safe_acts came (min n 65536) ifs time ≡ fail_safe_acts came n ifs time
+pub stopped-decides : (came : Bool) (n : ℕ) (ifs : Bool) (time : ℕ) → time ≤ 65535
+    → fail_safe_acts came (min n 65536) ifs time ≡ fail_safe_acts came n ifs time
 unfolding fail_safe_acts
 stopped-decides came n ifs time h = ap (λ (b : Bool). not came || b || ifs) (go (ltb time n) refl)
   where

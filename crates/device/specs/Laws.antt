@@ -277,7 +277,8 @@ first_of (Reading.Refused r) = 0
 
 stored-counts : (d : Device) (number a b rev block : ℕ) → 0 < block → T (takes (entry_of block number) a b) → read_of d block 1 ≡ Read (words rev 0)
     → read_of (stored_in d block number a b) block 1 ≡ Read (words (rev_after (is_static block number) rev) 0)
-unfolding read_of words_of ain_words tot_words ao_words di_words dout_words discrete_words entry_of entry_in ain tot ao di dout discrete stored_in ain_written tot_written
+unfolding read_of words_of ain_words tot_words ao_words di_words dout_words discrete_words entry_of entry_in ain tot ao di dout discrete
+    stored_in ain_written tot_written
     ao_written di_written dout_written
 stored-counts d number a b rev =
     by-block

@@ -106,7 +106,8 @@ Within low under high over =
 -- P5: a single that is finite
 abbrev Finite : ℕ → ℕ → Type 0
 Finite =
-    Takes (λ a b. finite (float_of a) && eqb b 0) (one 0 ∷ one largest ∷ one smallest ∷ []) (one infinity ∷ one minus_infinity ∷ one not_a_number ∷ words 0 1 ∷ [])
+    Takes (λ a b. finite (float_of a) && eqb b 0) (one 0 ∷ one largest ∷ one smallest ∷ [])
+    (one infinity ∷ one minus_infinity ∷ one not_a_number ∷ words 0 1 ∷ [])
 
 -- P11h, P11i: a single that is finite, or the one infinity (`below`: the one below all)
 abbrev pub finite_or : Bool → Float → Bool
@@ -117,7 +118,8 @@ finite_or below (fin s m e) = true
 
 abbrev Limit : Bool → ℕ → ℕ → ℕ → ℕ → Type 0
 Limit below this other =
-    Takes (λ a b. finite_or below (float_of a) && eqb b 0) (one this ∷ one largest ∷ one smallest ∷ one 0 ∷ []) (one other ∷ one not_a_number ∷ words this 1 ∷ [])
+    Takes (λ a b. finite_or below (float_of a) && eqb b 0) (one this ∷ one largest ∷ one smallest ∷ one 0 ∷ [])
+    (one other ∷ one not_a_number ∷ words this 1 ∷ [])
 
 -- P11c: two finite ends, unequal as numbers
 abbrev Ends : ℕ → ℕ → Type 0
@@ -172,7 +174,8 @@ all_listed block (r ∷ rows) = listed block r && all_listed block rows
 
 -- and no list has more
 abbrev Agrees : ℕ → Type 0
-Agrees block = (all_listed block (rows_of block) ≡ true) × (length (rows_of block) ≡ length (statics block ++ kepts block ++ outputs block ++ read_onlys block))
+Agrees block = (all_listed block (rows_of block) ≡ true)
+    × (length (rows_of block) ≡ length (statics block ++ kepts block ++ outputs block ++ read_onlys block))
 
 -- ---- scales
 
@@ -297,7 +300,8 @@ pub record Cited : Type 0 where
       × (scaled (by_table ▷ wrote 1 13 0 0 ▷ wrote 1 11 0 0x4280_0000 ▷ wrote 1 12 0 0x4280_0000) (pair 0x4100_0000 0x80) ≡ whole 8)
   -- Q1.10, Q1.11: none, one pair, a byte missing or too many, 22 pairs; then −0 before 0, a falling x, what isn't finite; locked before that
   pub loads : (loaded_as start weir ≡ 0) × (loaded_as start [] ≡ 9) × (loaded_as start (eight 0 0) ≡ 9) × (loaded_as start (drop 1 slope) ≡ 9)
-      × (loaded_as start (0 ∷ slope) ≡ 9) × (loaded_as start (eight 0x8000_0000 0 ++ eight 0 0) ≡ 10) × (loaded_as start (eight 0x3f80_0000 0 ++ eight 0 0) ≡ 10)
+      × (loaded_as start (0 ∷ slope) ≡ 9) × (loaded_as start (eight 0x8000_0000 0 ++ eight 0 0) ≡ 10)
+      × (loaded_as start (eight 0x3f80_0000 0 ++ eight 0 0) ≡ 10)
       × (loaded_as start (eight 0 infinity ++ eight 0x3f80_0000 0) ≡ 10) × (loaded_as start (eight 0 0 ++ eight not_a_number 0) ≡ 10)
       × (loaded_as locked weir ≡ 4) × (loaded_as locked [] ≡ 4)
   -- B2, Q3.9b: a block's bytes of a buffer with room for an image, and where they lie: five of each of AIN, TOT and AO, then two of each of DI and DO

@@ -131,6 +131,7 @@ pub man-stays : (d : Device) (b : ℕ) (x y : Pair) (z : Discrete)
     → (tick_of (write_of d 3 5 man b).device false x y z).order ≡ Position (float_of d.ao.state.out.bits))
     × (eqb d.dout.settings.target man ≡ false → (write_of d 5 5 man b).answer ≡ Accepted
     → (tick_of (write_of d 5 5 man b).device false x y z).order_d ≡ OrderD.Position d.dout.state.out.value)
-unfolding tick_of stored_in ao_written dout_written ao_settings dout_settings operator_by entered_by operator_after actual_mode Ao.tick_of Ao.ticked_with Ao.given_in
+unfolding tick_of stored_in ao_written dout_written ao_settings dout_settings operator_by entered_by operator_after actual_mode
+    Ao.tick_of Ao.ticked_with Ao.given_in
     Dout.tick_of Dout.ticked_with Dout.given_in by_mode operated_by operated_dout
 man-stays d b x y z = (λ other e. rw (stored d 3 5 man b e, other), λ other e. rw (stored d 5 5 man b e, other))

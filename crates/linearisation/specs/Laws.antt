@@ -144,7 +144,8 @@ module _ (points : List Point) (count : ℕ) (full : length points ≡ 21) (z : 
   on : (i : ℕ) → i < min count 21 → drop i ps ≡ get_or points i z ∷ drop (suc i) ps
   on i h = drop-cons ps i z (omega (arith, held)) ∙ ap (λ (p : Point). p ∷ drop (suc i) ps) (get_or-take count points i z (omega arith))
 
-  found : (i : ℕ) → i < min count 21 → used_on x (drop (suc i) ps) ≡ [] → le (get_or points i z).x x ≡ true → used_on x ps ≡ get_or points i z ∷ drop (suc i) ps
+  found : (i : ℕ) → i < min count 21 → used_on x (drop (suc i) ps) ≡ [] → le (get_or points i z).x x ≡ true
+      → used_on x ps ≡ get_or points i z ∷ drop (suc i) ps
   found i h none l =
       ap (used_on x) (sym (take-append-drop i ps))
       ∙ used-behind x (take i ps) (drop i ps) (get_or points i z) (drop (suc i) ps)
@@ -154,7 +155,8 @@ module _ (points : List Point) (count : ℕ) (full : length points ≡ 21) (z : 
   unfolding value_at
   given used e = rw (f, e)
 
-  pub found-last : (i : ℕ) → suc i ≡ min count 21 → used_on x (drop (suc i) ps) ≡ [] → le (get_or points i z).x x ≡ true → (get_or points i z).y ≡ value_at ps x
+  pub found-last : (i : ℕ) → suc i ≡ min count 21 → used_on x (drop (suc i) ps) ≡ [] → le (get_or points i z).x x ≡ true
+      → (get_or points i z).y ≡ value_at ps x
   found-last i h none l =
       sym (given (get_or points i z ∷ []) (found i (omega arith) none l
       ∙ ap (λ (r : List Point). get_or points i z ∷ r) (drop_of_length-le ps {i = suc i} (omega (arith, held)))))

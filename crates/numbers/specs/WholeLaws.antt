@@ -110,7 +110,8 @@ same-added a b d =
     ∙ ap (λ (x : ℤ). a +ℤ x) (sym (+ℤ_assoc d (neg_ℤ d) (neg_ℤ b)) ∙ ap (λ (x : ℤ). x +ℤ neg_ℤ b) (+ℤ_invr d) ∙ +ℤ_idl (neg_ℤ b))
 
 pub limit-sum-near : (n : ℕ) (a b d : ℤ) → unsigned_abs (limit n (a +ℤ d) -ℤ limit n (b +ℤ d)) ≤ unsigned_abs (a -ℤ b)
-limit-sum-near n a b d = subst (λ (x : ℤ). unsigned_abs (limit n (a +ℤ d) -ℤ limit n (b +ℤ d)) ≤ unsigned_abs x) (same-added a b d) (limit-near n (a +ℤ d) (b +ℤ d))
+limit-sum-near n a b d = subst (λ (x : ℤ). unsigned_abs (limit n (a +ℤ d) -ℤ limit n (b +ℤ d)) ≤ unsigned_abs x) (same-added a b d)
+    (limit-near n (a +ℤ d) (b +ℤ d))
 
 -- ---- the cut
 

@@ -186,7 +186,8 @@ abbrev pub words_to : ℕ → Table → List ℕ
 words_to i t = t.count ∷ (point_words i 0 t.points ++ replicate (2 * (21 - i)) 0)
 
 pub words-to-more : (t : Table) (i : ℕ) → i < 21
-    → set (set (words_to i t) (2 * i + 1) (bits_of (get_or t.points i zero_point).x)) (2 * i + 2) (bits_of (get_or t.points i zero_point).y) ≡ words_to (suc i) t
+    → set (set (words_to i t) (2 * i + 1) (bits_of (get_or t.points i zero_point).x)) (2 * i + 2) (bits_of (get_or t.points i zero_point).y)
+    ≡ words_to (suc i) t
 words-to-more t i h =
     let front : List ℕ = t.count ∷ point_words i 0 t.points in
     let x = bits_of (get_or t.points i zero_point).x in
@@ -325,7 +326,8 @@ module _ (d : Device) (first : Small (first_words d.write_locking))
       small-append (f ++ a ++ l ++ t ++ o ++ i) (dout_words d.dout) (small-append (f ++ a ++ l ++ t ++ o) i five di.0) dout.0
 
   device-back : device_of (words_of d) ≡ d
-  unfolding device_of words_of ain_of tot_of ao_of di_of dout_of ain_settings ain_state tot_settings tot_state ao_settings ao_state di_settings di_state dout_settings
+  unfolding device_of words_of ain_of tot_of ao_of di_of dout_of ain_settings ain_state tot_settings tot_state ao_settings ao_state
+      di_settings di_state dout_settings
       dout_state ain_words tot_words ao_words di_words dout_words table points table_words point_words
   device-back = rw (ain.1, ain.2, ain.3, lin.1, tot.1, ao.1, di.1, dout.1)
 

@@ -140,7 +140,8 @@ unfolding all_put place_after_all
 put-append s at [] qs = refl
 put-append s at (p ∷ ps) qs = put-append (bytes_put s at p) (place_after s at p) ps qs
 
-pub place-append : (s : List ℕ) (at : ℕ) (ps qs : List (List ℕ)) → place_after_all s at (ps ++ qs) ≡ place_after_all (all_put s at ps) (place_after_all s at ps) qs
+pub place-append : (s : List ℕ) (at : ℕ) (ps qs : List (List ℕ)) → place_after_all s at (ps ++ qs)
+    ≡ place_after_all (all_put s at ps) (place_after_all s at ps) qs
 unfolding all_put place_after_all
 place-append s at [] qs = refl
 place-append s at (p ∷ ps) qs = place-append (bytes_put s at p) (place_after s at p) ps qs

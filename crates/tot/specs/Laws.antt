@@ -201,15 +201,18 @@ picked-near p true (negsuc a) (negsuc b) = le_refl (nat_abs (negsuc a -ℤ negsu
 picked-near p false (negsuc a) (negsuc b) = zero-le
 
 pub wanted-near : (mode_tot : ℕ) (a b : ℤ) → nat_abs (wanted mode_tot a -ℤ wanted mode_tot b) ≤ nat_abs (a -ℤ b)
-wanted-near mode_tot a b = rw (wanted-is mode_tot a, wanted-is mode_tot b) (picked-near (eqb mode_tot 0 || eqb mode_tot 1) (eqb mode_tot 0 || eqb mode_tot 2) a b)
+wanted-near mode_tot a b = rw (wanted-is mode_tot a, wanted-is mode_tot b)
+    (picked-near (eqb mode_tot 0 || eqb mode_tot 1) (eqb mode_tot 0 || eqb mode_tot 2) a b)
 
 -- equal arguments: a tick never moves two totals apart
-pub next-near : (set_tot : ℕ) (preset_tot : Float) (a b z : ℤ) → nat_abs (next_total set_tot preset_tot a z -ℤ next_total set_tot preset_tot b z) ≤ nat_abs (a -ℤ b)
+pub next-near : (set_tot : ℕ) (preset_tot : Float) (a b z : ℤ) → nat_abs (next_total set_tot preset_tot a z -ℤ next_total set_tot preset_tot b z)
+    ≤ nat_abs (a -ℤ b)
 unfolding next_total sum_of
 next-near set_tot preset_tot a b z = go (eqb set_tot 0) (eqb set_tot 1)
   where
     go : (t u : Bool) → nat_abs
-        (cond t (sum_of a z) (cond u (pos 0) (thousandths_of preset_tot)) -ℤ cond t (sum_of b z) (cond u (pos 0) (thousandths_of preset_tot))) ≤ nat_abs (a -ℤ b)
+        (cond t (sum_of a z) (cond u (pos 0) (thousandths_of preset_tot))
+        -ℤ cond t (sum_of b z) (cond u (pos 0) (thousandths_of preset_tot))) ≤ nat_abs (a -ℤ b)
     go true u = limit-sum-near total_limit a b z
     go false true = zero-le
     go false false = le_trans (same (thousandths_of preset_tot)) zero-le
@@ -232,7 +235,8 @@ increments-near set_tot preset_tot mode_tot total a b = go (eqb set_tot 0) (eqb 
     y = wanted mode_tot b
 
     go : (t u : Bool) → nat_abs
-        (cond t (sum_of total x) (cond u (pos 0) (thousandths_of preset_tot)) -ℤ cond t (sum_of total y) (cond u (pos 0) (thousandths_of preset_tot))) ≤ nat_abs
+        (cond t (sum_of total x) (cond u (pos 0) (thousandths_of preset_tot))
+        -ℤ cond t (sum_of total y) (cond u (pos 0) (thousandths_of preset_tot))) ≤ nat_abs
         (a -ℤ b)
     go true u = rw (+ℤ_comm total x, +ℤ_comm total y) (le_trans (limit-sum-near total_limit x y total) (wanted-near mode_tot a b))
     go false true = zero-le

@@ -217,7 +217,8 @@ module _ (s : List ℕ) (ain tot ao : Pair) (di dout : Discrete) where
       Given : ℕ → Type 0
       Given block =
           cond (leb 1 block && leb block 5)
-          (take (part_length block) (drop (part_from block) (five_bytes ain ++ five_bytes tot ++ five_bytes ao ++ two_bytes di ++ two_bytes dout ++ drop 19 s))) []
+          (take (part_length block) (drop (part_from block) (five_bytes ain ++ five_bytes tot ++ five_bytes ao
+          ++ two_bytes di ++ two_bytes dout ++ drop 19 s))) []
           ≡ block_bytes ain tot ao di dout block
 
       none : (block : ℕ) → 5 < block → Given block
