@@ -1,5 +1,5 @@
 -- What a value becomes by a list of pairs, document 02, request 1. Each operation rounds its result. Assumes nothing.
-use Rattle.std.specs.Prelude.{Bool, not, cond, List, [], ◌∷◌, Float}
+use Rattle.std.specs.Prelude.{not, cond, List, [], ◌∷◌, Float}
 use Rattle.std.specs.Float.{binary32}
 use Rattle.std.specs.Float.Ieee.{add, sub, mul, div, le}
 use Rattle.std.specs.Float.Ieee.Scale.{finite}

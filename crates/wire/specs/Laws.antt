@@ -1,6 +1,6 @@
 -- Laws of the definitions in this folder, for callers: the status byte, the five bytes and the two go there and back, and a buffer keeps its length.
 -- Assumes nothing.
-use Prim.Native.Nat.{ℕ, zero, suc, ◌+◌, ◌-◌, ◌*◌, ◌/◌, ◌%◌, ◌^◌, ◌<◌, ◌≤◌}
+use Prim.Native.Nat.{ℕ, zero, suc, ◌+◌, ◌/◌, ◌%◌, ◌^◌, ◌<◌, ◌≤◌}
 use Rattle.std.proofs.Common.{arith, sym, ap, ◌∙◌, drop_of_length-le, length-append, length-take, drop-cons, drop-drop}
 use Rattle.std.specs.Prelude.{◌≡◌, Bool, ◌&&◌, get_or, take, eqb}
 use Rattle.std.proofs.Math.Path.{refl}

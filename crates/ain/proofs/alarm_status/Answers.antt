@@ -1,7 +1,6 @@
 -- `ain::alarm_status` meets its contract: the tests that led to each `return` pick the definition's case.
 -- Assumes nothing.
 use Rattle.ain.specs.Alarm.{alarm_status}
-use borrow.Author.Rules.{rules}
 use Rattle.ain.proofs.alarm_status.Goals as goal
 
 pub returns-then-own : goal.returns-then-own

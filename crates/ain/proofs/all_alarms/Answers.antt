@@ -1,7 +1,6 @@
 -- `ain::all_alarms` meets its contract: each of the four is one call of the rule.
 -- Assumes nothing.
 use Rattle.ain.specs.Alarm.{alarms_of}
-use borrow.Author.Rules.{rules}
 use Rattle.ain.proofs.all_alarms.Goals as goal
 
 pub returns : goal.returns

@@ -1,7 +1,6 @@
 -- `ain::auto_tick` meets its contract: the input status picks the case.
 -- Assumes nothing.
 use Rattle.ain.specs.Tick.{auto_tick, input_of, scaled_value, calculated}
-use borrow.Author.Rules.{rules}
 use Rattle.ain.proofs.auto_tick.Goals as goal
 
 pub returns-in-Usable : goal.returns-in-Usable

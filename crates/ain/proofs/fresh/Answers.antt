@@ -1,6 +1,5 @@
 -- `ain::fresh` meets its contract: each field is what the call before it gives.
 -- Assumes nothing.
-use borrow.Author.Rules.{rules}
 use Rattle.ain.proofs.fresh.Goals as goal
 
 pub returns : goal.returns

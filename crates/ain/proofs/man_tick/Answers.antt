@@ -1,7 +1,6 @@
 -- `ain::man_tick` meets its contract: each field is what the call before it gives.
 -- Assumes nothing.
 use Rattle.ain.specs.Tick.{man_tick}
-use borrow.Author.Rules.{rules}
 use Rattle.ain.proofs.man_tick.Goals as goal
 
 pub returns : goal.returns

@@ -1,7 +1,6 @@
 -- `ain::measured` meets its contract: LIN_TYPE picks the case.
 -- Assumes nothing.
 use Rattle.ain.specs.Tick.{measured}
-use borrow.Author.Rules.{rules}
 use Rattle.ain.proofs.measured.Goals as goal
 
 pub returns-then-by_table : goal.returns-then-by_table

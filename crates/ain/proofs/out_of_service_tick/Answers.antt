@@ -1,7 +1,6 @@
 -- `ain::out_of_service_tick` meets its contract: each field is what the call before it gives.
 -- Assumes nothing.
 use Rattle.ain.specs.Tick.{out_of_service_tick}
-use borrow.Author.Rules.{rules}
 use Rattle.ain.proofs.out_of_service_tick.Goals as goal
 
 pub returns : goal.returns

@@ -1,7 +1,6 @@
 -- `ain::scaled` meets its contract: one call after the other.
 -- Assumes nothing.
 use Rattle.ain.specs.Scaling.{scaled_of}
-use borrow.Author.Rules.{rules}
 use Rattle.ain.proofs.scaled.Goals as goal
 
 pub returns : goal.returns

@@ -1,7 +1,6 @@
 -- `ain::tick` meets its contract: the mode picks the case.
 -- Assumes nothing.
 use Rattle.ain.specs.Tick.{tick_of, tick_by}
-use borrow.Author.Rules.{rules}
 use Rattle.ain.proofs.tick.Goals as goal
 
 pub returns-then-off : goal.returns-then-off

@@ -1,7 +1,6 @@
 -- `ain::usable_tick` meets its contract: each field is what the call before it gives.
 -- Assumes nothing.
 use Rattle.ain.specs.Tick.{usable_tick}
-use borrow.Author.Rules.{rules}
 use Rattle.ain.proofs.usable_tick.Goals as goal
 
 pub returns : goal.returns

@@ -1,6 +1,5 @@
 -- `ain::warm_start` meets its contract: each field is what the call before it gives.
 -- Assumes nothing.
-use borrow.Author.Rules.{rules}
 use Rattle.ain.proofs.warm_start.Goals as goal
 
 pub returns : goal.returns

@@ -1,7 +1,6 @@
 -- `blocks::class_of` meets its contract: the tests are the definition's, in its order.
 -- Assumes nothing.
 use Rattle.blocks.specs.FailSafe.{class_of}
-use borrow.Author.Rules.{rules}
 use Rattle.blocks.proofs.class_of.Goals as goal
 
 pub returns-then-initiates : goal.returns-then-initiates

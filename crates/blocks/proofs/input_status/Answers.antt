@@ -1,7 +1,6 @@
 -- `blocks::input_status` meets its contract: the tests that led to each `return` pick the definition's case.
 -- Assumes nothing.
 use Rattle.blocks.specs.Common.{input_status}
-use borrow.Author.Rules.{rules}
 use Rattle.blocks.proofs.input_status.Goals as goal
 
 pub returns-then-cascade : goal.returns-then-cascade

@@ -1,7 +1,6 @@
 -- `blocks::operator_after` meets its contract: the code's test is the definition's.
 -- Assumes nothing.
 use Rattle.blocks.specs.Common.{operator_after}
-use borrow.Author.Rules.{rules}
 use Rattle.blocks.proofs.operator_after.Goals as goal
 
 pub returns-then-entered : goal.returns-then-entered

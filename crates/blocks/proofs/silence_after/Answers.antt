@@ -2,7 +2,6 @@
 -- Assumes nothing.
 use native.Mathlib.Omega.{arith}
 use Rattle.blocks.specs.FailSafe.{silence_after}
-use borrow.Author.Rules.{rules}
 use Rattle.blocks.proofs.silence_after.Goals as goal
 
 pub returns-then-n-lt65536 : goal.returns-then-n-lt65536

@@ -1,6 +1,5 @@
 -- `linearisation::is_allowed` meets its contract: the loop's invariant: what was found good so far, with the rest following the last x, is all; the measure is what is left of the pairs.
 -- Assumes nothing.
-use Prim.Native.Nat.{◌-◌, ◌≤◌}
 use mathlib.Core.Path.{◌≡◌, sym, ap, ◌∙◌}
 use mathlib.Core.Bool.{◌&&◌}
 use mathlib.Core.List.{List, []}
@@ -9,10 +8,9 @@ use native.Mathlib.Numerals.{add-one}
 use lib.Ieee.{of_bits, div, neg}
 use lib.ListN.{length, take, drop, length-take, drop_of_length-le}
 use lib.Seq.{get_or-take}
-use borrow.Author.Rules.{rules}
 use Rattle.linearisation.specs.declared.Point.{Point}
 use Rattle.linearisation.specs.Laws.{unwritten, and-true, follow-first, follow-more}
-use Rattle.linearisation.specs.Table.{follow, allowed}
+use Rattle.linearisation.specs.Table.{follow}
 use Rattle.linearisation.proofs.is_allowed.Goals as goal
 
 pub loop-i-init : goal.loop-i-init

@@ -1,15 +1,7 @@
 use Prim.Native.Nat.{◌-◌, ◌≤◌}
-use mathlib.Core.Path.{◌≡◌, sym, ap, ◌∙◌}
+use mathlib.Core.Path.{◌≡◌}
 use mathlib.Core.Bool.{◌&&◌}
-use mathlib.Core.List.{List, []}
-use native.Mathlib.Omega.{arith}
-use native.Mathlib.Numerals.{add-one}
-use lib.Ieee.{of_bits, div, neg}
-use lib.ListN.{length, take, drop, length-take, drop_of_length-le}
-use lib.Seq.{get_or-take}
-use borrow.Author.Rules.{rules}
-use Rattle.linearisation.specs.declared.Point.{Point}
-use Rattle.linearisation.specs.Laws.{unwritten, and-true, follow-first, follow-more}
+use lib.ListN.{take, drop}
 use Rattle.linearisation.specs.Table.{follow, allowed}
 use Rattle.linearisation.proofs.is_allowed.Given as goal
 

@@ -1,11 +1,10 @@
 -- `linearisation::linearised` meets its contract: the loop's invariant: no pair from place i on lies at or below the value; so the first one that does, from the last down, is the one used.
 -- Assumes nothing.
-use Prim.Native.Nat.{ℕ, suc, ◌-◌, ◌≤◌}
+use Prim.Native.Nat.{ℕ, suc, ◌-◌}
 use mathlib.Core.Path.{◌≡◌, refl, sym, ap, ◌∙◌, subst}
 use mathlib.Core.List.{List, [], ◌∷◌, map}
 use native.Mathlib.Omega.{arith}
 use lib.ListN.{length, get_or, drop}
-use borrow.Author.Rules.{rules}
 use denote.Laws.{Is}
 use denote.Struct.Laws as LL
 use Rattle.linearisation.specs.declared.Table.{Table}

@@ -1,17 +1,9 @@
-use Prim.Native.Nat.{ℕ, suc, ◌-◌, ◌≤◌}
-use mathlib.Core.Path.{◌≡◌, refl, sym, ap, ◌∙◌, subst}
-use mathlib.Core.List.{List, [], ◌∷◌, map}
-use native.Mathlib.Omega.{arith}
-use lib.ListN.{length, get_or, drop}
-use borrow.Author.Rules.{rules}
-use denote.Laws.{Is}
-use denote.Struct.Laws as LL
-use Rattle.linearisation.specs.declared.Table.{Table}
-use Rattle.linearisation.specs.contracts.Table as T
-use Rattle.linearisation.proofs.Table.TheLaws as T'
-use Rattle.linearisation.specs.Laws.{turned, unwritten, none_yet, found-last, found-inner, passed, no_pairs, before-first}
+use Prim.Native.Nat.{◌≤◌}
+use mathlib.Core.Path.{◌≡◌}
+use mathlib.Core.List.{[]}
+use lib.ListN.{drop}
 use Rattle.linearisation.specs.Table.{pairs_of}
-use Rattle.linearisation.specs.Value.{used_on, between, value_at}
+use Rattle.linearisation.specs.Value.{used_on}
 use Rattle.linearisation.proofs.linearised.Given as goal
 
 abbrev pub invariant-loop-i : goal.invariant-loop-i

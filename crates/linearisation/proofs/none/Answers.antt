@@ -1,6 +1,5 @@
 -- `linearisation::none` meets its contract: no pair, and zeros in all places.
 -- Assumes nothing.
-use borrow.Author.Rules.{rules}
 use Rattle.linearisation.proofs.none.Goals as goal
 
 pub returns : goal.returns

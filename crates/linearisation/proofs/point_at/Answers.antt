@@ -3,7 +3,6 @@
 use Prim.Native.Nat.{◌*◌}
 use mathlib.Core.Path.{sym, ◌∙◌}
 use native.Mathlib.Omega.{arith}
-use borrow.Author.Rules.{rules}
 use Rattle.linearisation.specs.Table.{zero_point}
 use Rattle.linearisation.specs.Laws.{pair-in, pair-from}
 use Rattle.linearisation.proofs.point_at.Goals as goal

@@ -1,12 +1,9 @@
 -- `linearisation::points_of` meets its contract: the loop's invariant: the first i pairs are in their places, and zeros after them; the measure is what is left of the pairs.
 -- Assumes nothing.
-use Prim.Native.Nat.{◌-◌, ◌≤◌}
 use mathlib.Core.Path.{◌≡◌}
 use native.Mathlib.Omega.{arith}
 use native.Mathlib.Numerals.{add-one}
-use lib.ListN.{take}
-use borrow.Author.Rules.{rules}
-use Rattle.linearisation.specs.Table.{pairs_in, padded}
+use Rattle.linearisation.specs.Table.{pairs_in}
 use Rattle.linearisation.specs.Laws.{padded-more, many}
 use Rattle.linearisation.proofs.points_of.Goals as goal
 

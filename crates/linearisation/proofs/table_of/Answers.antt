@@ -7,7 +7,6 @@ use mathlib.Core.List.{List}
 use native.Mathlib.Omega.{arith}
 use lib.ListN.{length, take}
 use lib.Seq.{take-length}
-use borrow.Author.Rules.{rules}
 use Rattle.wire.specs.declared.Answer.TheVariants.{Accepted}
 use Rattle.linearisation.specs.declared.Point.{Point}
 use Rattle.linearisation.specs.Table.{padded, pairs_in, whole_pairs, allowed, loaded_of}

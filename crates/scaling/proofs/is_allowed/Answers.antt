@@ -1,7 +1,6 @@
 -- `scaling::is_allowed` meets its contract: each test is the one that the definition names.
 -- Assumes nothing.
 use Rattle.scaling.specs.Scaling.{allowed_scale}
-use borrow.Author.Rules.{rules}
 use Rattle.scaling.proofs.is_allowed.Goals as goal
 
 pub returns : goal.returns

@@ -1,10 +1,9 @@
 -- `text::copy` meets its contract, with this loop invariant: the first i bytes are in place, `lib.Seq`'s `paste`; the measure is the rest of them.
-use Prim.Native.Nat.{◌≤◌, ◌-◌}
 use mathlib.Core.Path.{◌≡◌, refl}
 use native.Mathlib.Omega.{arith}
 use native.Mathlib.Numerals.{add-one}
 use lib.ListN.{length, length-set}
-use lib.Seq.{paste, paste-zero, paste-suc, take-length}
+use lib.Seq.{paste-zero, paste-suc, take-length}
 use Rattle.text.proofs.copy.Goals as goal
 
 pub loop-i-init : goal.loop-i-init

@@ -1,13 +1,8 @@
-use Prim.Native.Nat.{ℕ, zero, suc, ◌+◌, ◌-◌, ◌/◌, ◌%◌, ◌^◌, ◌≤◌, ◌<◌}
-use mathlib.Core.Path.{◌≡◌, ◌∙◌}
-use mathlib.Core.List.{List, ◌++◌, append_assoc, append-nil}
-use native.Mathlib.Omega.{arith}
-use native.Mathlib.Nat.{div-lt_iff_lt-mul, pow-suc}
-use native.Mathlib.Numerals.{add-one}
-use lib.ListN.{length, drop, set, length-set, drop_of_length-le}
-use Rattle.text.proofs.Ends.{stored}
-use borrow.Author.Tests.{lt-ltb, le-ltb}
-use Rattle.text.specs.Digits.{digit as digit_byte, decimal_in, decimal as decimal_of}
+use Prim.Native.Nat.{◌+◌, ◌^◌, ◌≤◌, ◌<◌}
+use mathlib.Core.Path.{◌≡◌}
+use mathlib.Core.List.{◌++◌}
+use lib.ListN.{length, drop}
+use Rattle.text.specs.Digits.{decimal_in, decimal as decimal_of}
 use Rattle.text.proofs.decimal.Given as goal
 
 abbrev pub invariant-loop-rest : goal.invariant-loop-rest

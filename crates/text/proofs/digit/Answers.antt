@@ -1,5 +1,4 @@
 -- `text::digit` meets its contract: the test is the definition's.
-use borrow.Author.Rules.{rules}
 use Rattle.text.proofs.digit.Goals as goal
 
 pub returns-then-low : goal.returns-then-low

@@ -10,7 +10,6 @@ use mir.Syntax.{w64}
 use mir.Val.{SFits, Fits, to_z, of_z}
 use mir.ValLaws.{to_z_pos, to_z-of_z}
 use borrow.Author.Tests.{ltb-true}
-use borrow.Author.Rules.{rules}
 use Rattle.text.proofs.magnitude.Goals as goal
 
 -- `!z` of a negative number is one less than its magnitude

@@ -3,7 +3,6 @@ use native.Mathlib.Omega.{arith}
 use borrow.Author.Tests.{le-leb, lt-leb}
 use lib.ListN.{length}
 use Rattle.text.specs.Number.{number_in}
-use borrow.Author.Rules.{rules}
 use Rattle.text.proofs.number_in.Goals as goal
 
 pub returns-then-from-to : goal.returns-then-from-to

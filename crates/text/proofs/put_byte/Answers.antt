@@ -1,5 +1,4 @@
 -- `text::put_byte` meets its contract: the text is the byte's two digits, and `put_bytes` puts it.
-use borrow.Author.Rules.{rules}
 use Rattle.text.proofs.put_byte.Goals as goal
 
 pub returns : goal.returns

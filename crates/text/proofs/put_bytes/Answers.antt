@@ -4,7 +4,6 @@ use native.Mathlib.Omega.{arith}
 use borrow.Author.Tests.{le-leb, lt-leb}
 use lib.ListN.{length}
 use Rattle.text.specs.Place.{place_after, bytes_put}
-use borrow.Author.Rules.{rules}
 use Rattle.text.proofs.put_bytes.Goals as goal
 
 pub returns-then-at-room : goal.returns-then-at-room

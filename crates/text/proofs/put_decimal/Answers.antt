@@ -1,7 +1,6 @@
 -- `text::put_decimal` meets its contract: the text from its first digit on is the number's, and `put_bytes` puts it.
 use mathlib.Core.Path.{◌∙◌}
 use Rattle.text.proofs.Ends.{to_end}
-use borrow.Author.Rules.{rules}
 use Rattle.text.proofs.put_decimal.Goals as goal
 
 pub returns : goal.returns

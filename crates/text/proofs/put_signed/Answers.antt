@@ -8,7 +8,6 @@ use mir.ValLaws.{to_z-of_z}
 use Rattle.text.specs.Digits.{signed}
 use Rattle.text.specs.Laws.{signed-negative, signed-plain}
 use Rattle.text.proofs.Ends.{stored, to_end}
-use borrow.Author.Rules.{rules}
 use Rattle.text.proofs.put_signed.Goals as goal
 
 pub slice_bounds-put_bytes-end : goal.slice_bounds-put_bytes-end

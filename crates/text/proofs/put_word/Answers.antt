@@ -1,5 +1,4 @@
 -- `text::put_word` meets its contract: the text is `0x` and the word's eight digits, each the lowest digit of what is left of the word, and `put_bytes` puts it.
-use borrow.Author.Rules.{rules}
 use Rattle.text.proofs.put_word.Goals as goal
 
 pub returns : goal.returns

@@ -2,7 +2,6 @@
 use native.Mathlib.Omega.{arith}
 use borrow.Author.Tests.{lt-ltb, le-ltb}
 use Rattle.text.specs.Number.{digit_value}
-use borrow.Author.Rules.{rules}
 use Rattle.text.proofs.value.Goals as goal
 
 pub returns-then-byte-lt48 : goal.returns-then-byte-lt48

@@ -5,7 +5,6 @@ use lib.ListN.{length}
 use mathlib.Core.Path.{refl}
 use Rattle.text.specs.Number.{word_number}
 use Rattle.text.proofs.Ends.{to_end}
-use borrow.Author.Rules.{rules}
 use Rattle.text.proofs.word_number.Goals as goal
 
 pub returns-then-word-lt2 : goal.returns-then-word-lt2

@@ -5,7 +5,6 @@ use borrow.Author.Tests.{le-leb, lt-leb}
 use lib.ListN.{length}
 use Rattle.wire.specs.Image.{image_answer, image_bytes}
 use Rattle.wire.specs.Laws.{image-puts}
-use borrow.Author.Rules.{rules}
 use Rattle.wire.proofs.image.Goals as goal
 
 pub returns-then-room-lt19 : goal.returns-then-room-lt19

@@ -3,7 +3,6 @@ use native.Mathlib.Omega.{arith}
 use borrow.Author.Tests.{eq-eqb, ne_eqb}
 use lib.ListN.{length}
 use Rattle.wire.specs.Bytes.{pair_of}
-use borrow.Author.Rules.{rules}
 use Rattle.wire.proofs.pair_of.Goals as goal
 
 pub returns-then-s-ne5 : goal.returns-then-s-ne5

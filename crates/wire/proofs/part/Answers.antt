@@ -4,7 +4,6 @@ use native.Mathlib.Nat.{add-sub_cancel_left}
 use borrow.Author.Tests.{le-leb, lt-leb}
 use lib.ListN.{length}
 use Rattle.wire.specs.Image.{part_of, part_place}
-use borrow.Author.Rules.{rules}
 use Rattle.wire.proofs.part.Goals as goal
 
 pub returns-then-buf-lt19 : goal.returns-then-buf-lt19

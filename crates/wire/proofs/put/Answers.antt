@@ -6,7 +6,6 @@ use lib.ListN.{length-set}
 use lib.Seq.{sets-eq}
 use Rattle.wire.specs.Bytes.{five_bytes}
 use Rattle.wire.specs.Laws.{placed-accepted, placed-refused}
-use borrow.Author.Rules.{rules}
 use Rattle.wire.proofs.put.Goals as goal
 
 pub returns-then-buf-lt5 : goal.returns-then-buf-lt5

@@ -6,7 +6,6 @@ use lib.ListN.{length-set}
 use lib.Seq.{sets-eq}
 use Rattle.wire.specs.Bytes.{two_bytes}
 use Rattle.wire.specs.Laws.{placed-accepted, placed-refused}
-use borrow.Author.Rules.{rules}
 use Rattle.wire.proofs.put_discrete.Goals as goal
 
 pub returns-then-buf-lt2 : goal.returns-then-buf-lt2

@@ -2,7 +2,6 @@
 -- Assumes nothing.
 use lib.Ieee.{to_bits}
 use Rattle.numbers.proofs.Tests.{differs, same_number}
-use Rattle.std.proofs.Common.{rules}
 use Rattle.numbers.proofs.floats.bits_of.Goals as goal
 
 pub returns-then-x : goal.returns-then-x

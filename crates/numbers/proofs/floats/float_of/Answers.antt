@@ -1,6 +1,6 @@
 -- `numbers::floats::float_of` meets its contract: the test picks exactly the NaN patterns.
 -- Assumes nothing.
-use Rattle.std.proofs.Common.{Bool, not, T, sym, ◌∙◌, subst, rules}
+use Rattle.std.proofs.Common.{Bool, not, T, sym, ◌∙◌, subst}
 use lib.Ieee.{binary32, of_bits}
 use lib.Ieee.Bits.{nan_bits_above}
 use Rattle.numbers.proofs.Tests.{the_nan, is-nan, nan_pattern}

@@ -1,5 +1,5 @@
 -- `whole::cut` is right: within the two ends the kit's function cuts, below the lower end, above the upper one and at a NaN the test alone says what to_signed gives.
-use Rattle.std.proofs.Common.{◌≡◌, ℕ, ◌+◌, ◌-◌, ◌*◌, ◌/◌, ◌^◌, ◌<◌, ◌≤◌, min, Bool, true, false, ◌&&◌, ◌||◌, T, eqb, ltb, pos, negsuc, neg_ℤ, sym, refl, ap, ◌∙◌, subst, true≢false, le_trans, le_of_eq, lt_of_lt_of_le, le-add_right, mul-pos, le-div_iff_mul-le, mul-one, le-add_left, arith, pow_pos, rules, ltb-false, lt-ltb}
+use Rattle.std.proofs.Common.{◌≡◌, ℕ, ◌+◌, ◌-◌, ◌*◌, ◌/◌, ◌^◌, ◌<◌, ◌≤◌, min, Bool, true, false, ◌&&◌, ◌||◌, T, eqb, ltb, pos, negsuc, neg_ℤ, sym, refl, ap, ◌∙◌, subst, true≢false, le_trans, le_of_eq, lt_of_lt_of_le, le-add_right, mul-pos, le-div_iff_mul-le, mul-one, le-add_left, arith, pow_pos, ltb-false, lt-ltb}
 use mathlib.Core.Bool.{false≢true}
 use lib.Ieee.{Float, nan, inf, fin, up, down, lt, le, ne, neg, of_bits, to_signed}
 use lib.Ieee.Fits.{down_pos}

@@ -1,5 +1,5 @@
 -- `whole::highest` is right: the leading zeros give the number of bits past the 24 highest; what is left of m after the shift is a float exactly, and so is its product by the power of two.
-use Rattle.std.proofs.Common.{◌≡◌, ℕ, zero, suc, ◌+◌, ◌-◌, ◌*◌, ◌/◌, ◌^◌, ◌<◌, ◌≤◌, false, pos, sym, ap, subst, le_trans, le_of_eq, le_refl, lt_of_lt_of_le, le-add_right, le_of_lt, zero-lt-suc, mul-le-mul_left, one-mul, le-div_iff_mul-le, le-add_left, arith, lit<, le→leb, pow_pos, pow_mono, rules}
+use Rattle.std.proofs.Common.{◌≡◌, ℕ, zero, suc, ◌+◌, ◌-◌, ◌*◌, ◌/◌, ◌^◌, ◌<◌, ◌≤◌, false, pos, sym, ap, subst, le_trans, le_of_eq, le_refl, lt_of_lt_of_le, le-add_right, le_of_lt, zero-lt-suc, mul-le-mul_left, one-mul, le-div_iff_mul-le, le-add_left, arith, lit<, le→leb, pow_pos, pow_mono}
 use native.Mathlib.Nat.{pow-succ'}
 use lib.Count.{count_leading_zeros, leading_unique}
 use lib.Ieee.{binary32, size, mul, of_int, in_float}

@@ -1,5 +1,5 @@
 -- `whole::limited` is right: `end` gives the limit n as a number not below 0, and its two tests are those of z against n and -n.
-use Rattle.std.proofs.Common.{◌≡◌, ℕ, zero, suc, ◌^◌, ◌<◌, ◌≤◌, min, true, false, ℤ, pos, negsuc, ◌-ℤ◌, neg_ℤ, sym, ap, ◌∙◌, subst, true≢false, le_trans, arith, w64, SFits, to_z, of_z, rules, ltb-false, ltb-true}
+use Rattle.std.proofs.Common.{◌≡◌, ℕ, zero, suc, ◌^◌, ◌<◌, ◌≤◌, min, true, false, ℤ, pos, negsuc, ◌-ℤ◌, neg_ℤ, sym, ap, ◌∙◌, subst, true≢false, le_trans, arith, w64, SFits, to_z, of_z, ltb-false, ltb-true}
 use mathlib.Core.Bool.{false≢true}
 use native.Mathlib.Nat.{le-suc}
 use lib.IntN.{+ℤ_idl}
@@ -40,10 +40,13 @@ neg_small (suc b) h = le_trans (le-suc (suc b)) h
 module _ (n r : ℤ) (f : SFits w64 n) (e : r ≡ pos (bound (to_z w64 (of_z w64 n)))) where
   high_is : to_z w64 (of_z w64 r) ≡ pos (bound n)
   high_is = ap (λ (x : ℤ). to_z w64 (of_z w64 x)) (e ∙ ap (λ (x : ℤ). pos (bound x)) (to_z-of_z w64 n f)) ∙ to_z-of_z w64 (pos (bound n)) (record { sfits = bound-small n f.sfits })
+
   low_of : pos 0 -ℤ to_z w64 (of_z w64 r) ≡ neg_ℤ (pos (bound n))
   low_of = ap (λ (x : ℤ). pos 0 -ℤ x) high_is ∙ +ℤ_idl (neg_ℤ (pos (bound n)))
+
   low_fits : SFits w64 (pos 0 -ℤ to_z w64 (of_z w64 r))
   low_fits = subst (λ (x : ℤ). SFits w64 x) (sym low_of) (record { sfits = neg_small (bound n) (bound-small n f.sfits) })
+
   low-is : to_z w64 (of_z w64 (pos 0 -ℤ to_z w64 (of_z w64 r))) ≡ neg_ℤ (pos (bound n))
   low-is = to_z-of_z w64 (pos 0 -ℤ to_z w64 (of_z w64 r)) low_fits ∙ low_of
 

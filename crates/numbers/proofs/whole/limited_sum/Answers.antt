@@ -1,5 +1,5 @@
 -- `whole::limited_sum` is right: a limit within an i64 does not see that the sum was brought to an i64's end.
-use Rattle.std.proofs.Common.{◌+ℤ◌, ◌∙◌, w64, rules}
+use Rattle.std.proofs.Common.{◌+ℤ◌, ◌∙◌, w64}
 use mir.ValLaws.{to_z-of_z}
 use Rattle.numbers.specs.Whole.{bound}
 use Rattle.numbers.specs.WholeLaws.{bound-small, limit-saturated}

@@ -1,5 +1,5 @@
 -- `whole::magnitude` is right: of a number below 0, -1 less it is one less than its magnitude and fits where the magnitude may not.
-use Rattle.std.proofs.Common.{◌≡◌, suc, ◌+◌, ◌-◌, ◌^◌, ◌<◌, true, false, T, ltb, ℤ, pos, negsuc, ◌-ℤ◌, nat_abs, ap, ◌∙◌, true≢false, add-one, arith, ltb→lt, w64, Fits, SFits, to_z, of_z, rules, ltb-true}
+use Rattle.std.proofs.Common.{◌≡◌, suc, ◌+◌, ◌-◌, ◌^◌, ◌<◌, true, false, T, ltb, ℤ, pos, negsuc, ◌-ℤ◌, nat_abs, ap, ◌∙◌, true≢false, add-one, arith, ltb→lt, w64, Fits, SFits, to_z, of_z, ltb-true}
 use lib.Signed.{lt_z, mag, non_neg}
 use mir.ValLaws.{to_z-of_z}
 use Rattle.numbers.specs.WholeLaws.{cond_has}
@@ -22,8 +22,10 @@ one_more (negsuc k) n = add-one k
 module _ (z : ℤ) (f : SFits w64 z) (n : lt_z (read z) (pos 0) ≡ true) where
   less-is : negsuc 0 -ℤ read z ≡ pos (mag z)
   less-is = rw (to_z-of_z w64 z f) (one_less z (rw (to_z-of_z w64 z f) at n))
+
   less-fits : SFits w64 (negsuc 0 -ℤ read z)
   less-fits = rw less-is (record { sfits = f.sfits })
+
   less-read : read (negsuc 0 -ℤ read z) ≡ pos (mag z)
   less-read = to_z-of_z w64 (negsuc 0 -ℤ read z) less-fits ∙ less-is
 

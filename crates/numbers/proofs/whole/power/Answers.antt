@@ -1,5 +1,5 @@
 -- `whole::power` is right: for each k the bits of 2 ^ k are k + 127 in the exponent field and nothing beside it.
-use Rattle.std.proofs.Common.{◌≡◌, ℕ, zero, suc, ◌+◌, ◌*◌, ◌%◌, ◌^◌, ◌≤◌, Bool, true, false, not, ◌&&◌, T, eqb, ltb, pos, sym, refl, ap, ◌∙◌, subst, mod-eq_of_lt, arith, eqb→eq, rules, ltb-false, ltb-true}
+use Rattle.std.proofs.Common.{◌≡◌, ℕ, zero, suc, ◌+◌, ◌*◌, ◌%◌, ◌^◌, ◌≤◌, Bool, true, false, not, ◌&&◌, T, eqb, ltb, pos, sym, refl, ap, ◌∙◌, subst, mod-eq_of_lt, arith, eqb→eq, ltb-false, ltb-true}
 use lib.Ieee.{Float, binary32, of_int, of_bits, to_bits, fits, nan_bits}
 use lib.Ieee.Bits.{of_bits-to_bits}
 use lib.Ieee.Fits.{and_l, and_r}

@@ -87,6 +87,7 @@ sum-read a b f g h = rw (to_z-of_z w64 a f, to_z-of_z w64 b g) (to_z-of_z w64 (a
 module _ (a b : ℤ) (f : SFits w64 a) (g : SFits w64 b) where
   low_sum : lt_z (read b) (pos 0) ≡ true → lt_z (read a) (read (least -ℤ read b)) ≡ false → mag (a +ℤ b) < 2 ^ 63
   low_sum n h = let m = rw (to_z-of_z w64 b g) at n in low-in a b m f.sfits g.sfits (rw (to_z-of_z w64 a f, end_read least b g (low-room b m g.sfits)) at h)
+
   high_sum : lt_z (read b) (pos 0) ≡ false → lt_z (read (greatest -ℤ read b)) (read a) ≡ false → mag (a +ℤ b) < 2 ^ 63
   high_sum n h = let m = rw (to_z-of_z w64 b g) at n in high-in a b m f.sfits g.sfits (rw (to_z-of_z w64 a f, end_read greatest b g (high-room b m g.sfits)) at h)
 

@@ -1,5 +1,5 @@
 -- `whole::value_of` is right: `highest` gives the magnitude's float, and of a negative total, whose highest bits are not 0, its sign is turned.
-use Rattle.std.proofs.Common.{◌≡◌, ℕ, zero, suc, ◌<◌, true, false, ℤ, pos, negsuc, neg_ℤ, nat_abs, sym, refl, true≢false, lt_irrefl, zero-lt-suc, arith, lit<, w64, rules, ltb-true}
+use Rattle.std.proofs.Common.{◌≡◌, ℕ, zero, suc, ◌<◌, true, false, ℤ, pos, negsuc, neg_ℤ, nat_abs, sym, refl, true≢false, lt_irrefl, zero-lt-suc, arith, lit<, w64, ltb-true}
 use lib.Signed.{lt_z}
 use lib.Ieee.{binary32, neg, of_int}
 use mir.ValLaws.{to_z-of_z}

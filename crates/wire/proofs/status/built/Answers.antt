@@ -2,7 +2,6 @@
 use native.Mathlib.Omega.{arith}
 use Rattle.wire.specs.Status.{built_of}
 use Rattle.wire.specs.Laws.{quality-below, limits-below}
-use borrow.Author.Rules.{rules}
 use Rattle.wire.proofs.status.built.Goals as goal
 
 pub overflow_mul-result : goal.overflow_mul-result

@@ -1,6 +1,5 @@
 -- `wire::status::split` meets its contract: its parts are what the two callees give.
 use Rattle.wire.specs.Status.{split_of}
-use borrow.Author.Rules.{rules}
 use Rattle.wire.proofs.status.split.Goals as goal
 
 pub returns : goal.returns

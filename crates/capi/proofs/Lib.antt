@@ -1,4 +1,0 @@
-pub mod Copied
-pub mod Devices
-pub mod Lent
-pub mod Passed

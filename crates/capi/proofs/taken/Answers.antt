@@ -1,0 +1,7 @@
+-- `capi::taken` meets its contract: it is the device's call, with the answer as a number.
+-- Assumes nothing.
+use borrow.Author.Rules.{rules}
+use Rattle.capi.proofs.taken.Goals as goal
+
+pub returns : goal.returns
+returns c = rw (c.numbered.ensures, c.telegram-taken.ensures)
