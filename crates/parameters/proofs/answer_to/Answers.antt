@@ -1,7 +1,6 @@
 -- `parameters::answer_to` meets its contract: the tests that led to each `return` pick the definition's case.
 -- Assumes nothing.
 use Rattle.parameters.specs.Refused.{ground}
-use borrow.Author.Rules.{rules}
 use Rattle.parameters.proofs.answer_to.Goals as goal
 
 pub returns-then-fixed : goal.returns-then-fixed
