@@ -63,178 +63,173 @@ fn total(rt: &impl Print, z: i64) -> io::Result<()> {
 // Zeros, subnormals, the ends of the normal numbers, infinities, and NaNs of both signs, quiet and signalling.
 fn singles(rt: &impl Print) -> io::Result<()> {
     title(rt, "singles")?;
-    single(rt, 0x00000000)?;
-    single(rt, 0x80000000)?;
-    single(rt, 0x00000001)?;
-    single(rt, 0x80000001)?;
-    single(rt, 0x007fffff)?;
-    single(rt, 0x00800000)?;
-    single(rt, 0x3f800000)?;
-    single(rt, 0xc2c80000)?;
-    single(rt, 0x7f7fffff)?;
-    single(rt, 0xff7fffff)?;
-    single(rt, 0x7f800000)?;
-    single(rt, 0xff800000)?;
-    single(rt, 0x7f800001)?;
-    single(rt, 0xff800001)?;
-    single(rt, 0x7fbfffff)?;
-    single(rt, 0x7fc00000)?;
-    single(rt, 0xffc00000)?;
-    single(rt, 0x7fffffff)?;
-    single(rt, 0xffffffff)
+    for bits in [
+        0x00000000, 0x80000000, 0x00000001, 0x80000001, 0x007fffff, 0x00800000, 0x3f800000,
+        0xc2c80000, 0x7f7fffff, 0xff7fffff, 0x7f800000, 0xff800000, 0x7f800001, 0xff800001,
+        0x7fbfffff, 0x7fc00000, 0xffc00000, 0x7fffffff, 0xffffffff,
+    ] {
+        single(rt, bits)?;
+    }
+    Ok(())
 }
 
 // PV_FTIME's 0 to 3600, TOTAL's 10^9 to either side, ALARM_HYS's 0 to the largest single, an empty range and NaN ends.
 fn ranges(rt: &impl Print) -> io::Result<()> {
     title(rt, "ranges")?;
-    range(rt, 0x00000000, 0x45610000, 0x00000000)?;
-    range(rt, 0x00000000, 0x45610000, 0x80000000)?;
-    range(rt, 0x00000000, 0x45610000, 0x80000001)?;
-    range(rt, 0x00000000, 0x45610000, 0x00000001)?;
-    range(rt, 0x00000000, 0x45610000, 0x45610000)?;
-    range(rt, 0x00000000, 0x45610000, 0x45610001)?;
-    range(rt, 0x00000000, 0x45610000, 0x7f800000)?;
-    range(rt, 0x00000000, 0x45610000, 0x7fc00000)?;
-    range(rt, 0x00000000, 0x45610000, 0xff800001)?;
-    range(rt, 0xce6e6b28, 0x4e6e6b28, 0x4e6e6b28)?;
-    range(rt, 0xce6e6b28, 0x4e6e6b28, 0x4e6e6b29)?;
-    range(rt, 0xce6e6b28, 0x4e6e6b28, 0xce6e6b28)?;
-    range(rt, 0xce6e6b28, 0x4e6e6b28, 0xce6e6b29)?;
-    range(rt, 0xce6e6b28, 0x4e6e6b28, 0xff800000)?;
-    range(rt, 0xce6e6b28, 0x4e6e6b28, 0xffffffff)?;
-    range(rt, 0x00000000, 0x7f7fffff, 0x7f7fffff)?;
-    range(rt, 0x00000000, 0x7f7fffff, 0x7f800000)?;
-    range(rt, 0x00000000, 0x80000000, 0x80000000)?;
-    range(rt, 0x3f800000, 0x00000000, 0x3f000000)?;
-    range(rt, 0x7fc00000, 0x3f800000, 0x00000000)?;
-    range(rt, 0x00000000, 0x7fc00000, 0x00000000)?;
-    range(rt, 0xff800000, 0x7f800000, 0x7fc00000)?;
-    range(rt, 0xff800000, 0x7f800000, 0xff800000)
+    for (low, high, bits) in [
+        (0x00000000, 0x45610000, 0x00000000),
+        (0x00000000, 0x45610000, 0x80000000),
+        (0x00000000, 0x45610000, 0x80000001),
+        (0x00000000, 0x45610000, 0x00000001),
+        (0x00000000, 0x45610000, 0x45610000),
+        (0x00000000, 0x45610000, 0x45610001),
+        (0x00000000, 0x45610000, 0x7f800000),
+        (0x00000000, 0x45610000, 0x7fc00000),
+        (0x00000000, 0x45610000, 0xff800001),
+        (0xce6e6b28, 0x4e6e6b28, 0x4e6e6b28),
+        (0xce6e6b28, 0x4e6e6b28, 0x4e6e6b29),
+        (0xce6e6b28, 0x4e6e6b28, 0xce6e6b28),
+        (0xce6e6b28, 0x4e6e6b28, 0xce6e6b29),
+        (0xce6e6b28, 0x4e6e6b28, 0xff800000),
+        (0xce6e6b28, 0x4e6e6b28, 0xffffffff),
+        (0x00000000, 0x7f7fffff, 0x7f7fffff),
+        (0x00000000, 0x7f7fffff, 0x7f800000),
+        (0x00000000, 0x80000000, 0x80000000),
+        (0x3f800000, 0x00000000, 0x3f000000),
+        (0x7fc00000, 0x3f800000, 0x00000000),
+        (0x00000000, 0x7fc00000, 0x00000000),
+        (0xff800000, 0x7f800000, 0x7fc00000),
+        (0xff800000, 0x7f800000, 0xff800000),
+    ] {
+        range(rt, low, high, bits)?;
+    }
+    Ok(())
 }
 
 // Cutting is toward zero: -1.5625 gives -1. A NaN gives 0, and what an i64 cannot hold its nearest end.
 fn cuts(rt: &impl Print) -> io::Result<()> {
     title(rt, "cuts")?;
-    cut(rt, 0x00000000)?;
-    cut(rt, 0x80000000)?;
-    cut(rt, 0x00000001)?;
-    cut(rt, 0x80000001)?;
-    cut(rt, 0x3f7fffff)?;
-    cut(rt, 0xbf7fffff)?;
-    cut(rt, 0x3f800000)?;
-    cut(rt, 0xbfc80000)?;
-    cut(rt, 0x3fc80000)?;
-    cut(rt, 0xbf800000)?;
-    cut(rt, 0xc0000000)?;
-    cut(rt, 0xbfffffff)?;
-    cut(rt, 0x4b7fffff)?;
-    cut(rt, 0xcb000001)?;
-    cut(rt, 0xcaffffff)?;
-    cut(rt, 0x4e6e6b28)?;
-    cut(rt, 0xd368d4a5)?;
-    cut(rt, 0x5effffff)?;
-    cut(rt, 0x5f000000)?;
-    cut(rt, 0xdeffffff)?;
-    cut(rt, 0xdf000000)?;
-    cut(rt, 0xdf000001)?;
-    cut(rt, 0x7f7fffff)?;
-    cut(rt, 0xff7fffff)?;
-    cut(rt, 0x7f800000)?;
-    cut(rt, 0xff800000)?;
-    cut(rt, 0x7fc00000)?;
-    cut(rt, 0xff800001)
+    for bits in [
+        0x00000000, 0x80000000, 0x00000001, 0x80000001, 0x3f7fffff, 0xbf7fffff, 0x3f800000,
+        0xbfc80000, 0x3fc80000, 0xbf800000, 0xc0000000, 0xbfffffff, 0x4b7fffff, 0xcb000001,
+        0xcaffffff, 0x4e6e6b28, 0xd368d4a5, 0x5effffff, 0x5f000000, 0xdeffffff, 0xdf000000,
+        0xdf000001, 0x7f7fffff, 0xff7fffff, 0x7f800000, 0xff800000, 0x7fc00000, 0xff800001,
+    ] {
+        cut(rt, bits)?;
+    }
+    Ok(())
 }
 
 // Limits of 10^9 and 10^12, the ends of an i64, and a limit below 0, which counts as 0.
 fn limits(rt: &impl Print) -> io::Result<()> {
     title(rt, "limits")?;
-    limited(rt, 999999999, 1000000000)?;
-    limited(rt, 1000000000, 1000000000)?;
-    limited(rt, 1000000001, 1000000000)?;
-    limited(rt, -1000000000, 1000000000)?;
-    limited(rt, -1000000001, 1000000000)?;
-    limited(rt, 1000000000001, 1000000000000)?;
-    limited(rt, -1000000000001, 1000000000000)?;
-    limited(rt, 0, 0)?;
-    limited(rt, 1, 0)?;
-    limited(rt, -1, 0)?;
-    limited(rt, 5, -3)?;
-    limited(rt, -5, i64::MIN)?;
-    limited(rt, i64::MAX, i64::MAX)?;
-    limited(rt, i64::MIN, i64::MAX)?;
-    limited(rt, i64::MIN, 1)?;
-    limited(rt, i64::MAX, 1)
+    for (z, n) in [
+        (999999999, 1000000000),
+        (1000000000, 1000000000),
+        (1000000001, 1000000000),
+        (-1000000000, 1000000000),
+        (-1000000001, 1000000000),
+        (1000000000001, 1000000000000),
+        (-1000000000001, 1000000000000),
+        (0, 0),
+        (1, 0),
+        (-1, 0),
+        (5, -3),
+        (-5, i64::MIN),
+        (i64::MAX, i64::MAX),
+        (i64::MIN, i64::MAX),
+        (i64::MIN, 1),
+        (i64::MAX, 1),
+    ] {
+        limited(rt, z, n)?;
+    }
+    Ok(())
 }
 
 // The exact sum is limited, also where it lies beyond an i64.
 fn sums(rt: &impl Print) -> io::Result<()> {
     title(rt, "sums")?;
-    sum(rt, 2, 3, 10)?;
-    sum(rt, 7, -9, 10)?;
-    sum(rt, 7, 9, 10)?;
-    sum(rt, -7, -9, 10)?;
-    sum(rt, 999999999999, 1, 1000000000000)?;
-    sum(rt, 1000000000000, 1, 1000000000000)?;
-    sum(rt, -1000000000000, -1000000000, 1000000000000)?;
-    sum(rt, 1000000000000, -1000000000, 1000000000000)?;
-    sum(rt, i64::MAX, 1, i64::MAX)?;
-    sum(rt, 1, i64::MAX, 1000000000000)?;
-    sum(rt, i64::MAX, i64::MAX, i64::MAX)?;
-    sum(rt, i64::MIN, -1, i64::MAX)?;
-    sum(rt, -1, i64::MIN, 1000000000000)?;
-    sum(rt, i64::MIN, i64::MIN, i64::MAX)?;
-    sum(rt, i64::MIN, i64::MAX, 10)?;
-    sum(rt, i64::MAX, i64::MIN, i64::MAX)?;
-    sum(rt, i64::MIN, 0, i64::MAX)?;
-    sum(rt, 0, i64::MIN, i64::MAX)?;
-    sum(rt, i64::MIN, 1, i64::MAX)?;
-    sum(rt, 3, 4, -1)
+    for (a, b, n) in [
+        (2, 3, 10),
+        (7, -9, 10),
+        (7, 9, 10),
+        (-7, -9, 10),
+        (999999999999, 1, 1000000000000),
+        (1000000000000, 1, 1000000000000),
+        (-1000000000000, -1000000000, 1000000000000),
+        (1000000000000, -1000000000, 1000000000000),
+        (i64::MAX, 1, i64::MAX),
+        (1, i64::MAX, 1000000000000),
+        (i64::MAX, i64::MAX, i64::MAX),
+        (i64::MIN, -1, i64::MAX),
+        (-1, i64::MIN, 1000000000000),
+        (i64::MIN, i64::MIN, i64::MAX),
+        (i64::MIN, i64::MAX, 10),
+        (i64::MAX, i64::MIN, i64::MAX),
+        (i64::MIN, 0, i64::MAX),
+        (0, i64::MIN, i64::MAX),
+        (i64::MIN, 1, i64::MAX),
+        (3, 4, -1),
+    ] {
+        sum(rt, a, b, n)?;
+    }
+    Ok(())
 }
 
 // The 24 highest bits, counted from the leading one; the others are cleared and not rounded.
 fn highest_bits(rt: &impl Print) -> io::Result<()> {
     title(rt, "highest bits")?;
-    highest(rt, 0)?;
-    highest(rt, 1)?;
-    highest(rt, 3)?;
-    highest(rt, 16777215)?;
-    highest(rt, 16777216)?;
-    highest(rt, 16777217)?;
-    highest(rt, 16777218)?;
-    highest(rt, 16777219)?;
-    highest(rt, 33554431)?;
-    highest(rt, 33554432)?;
-    highest(rt, 33554435)?;
-    highest(rt, 33554436)?;
-    highest(rt, 67108863)?;
-    highest(rt, 1000000000000)?;
-    highest(rt, 1099511627775)?;
-    highest(rt, 1099511627776)?;
-    highest(rt, 9223372036854775807)?;
-    highest(rt, 9223372036854775808)?;
-    highest(rt, 9223373136366403583)?;
-    highest(rt, 18446742974197923839)?;
-    highest(rt, 18446744073709551615)
+    for m in [
+        0,
+        1,
+        3,
+        16777215,
+        16777216,
+        16777217,
+        16777218,
+        16777219,
+        33554431,
+        33554432,
+        33554435,
+        33554436,
+        67108863,
+        1000000000000,
+        1099511627775,
+        1099511627776,
+        9223372036854775807,
+        9223372036854775808,
+        9223373136366403583,
+        18446742974197923839,
+        18446744073709551615,
+    ] {
+        highest(rt, m)?;
+    }
+    Ok(())
 }
 
 // Totals of either sign, with the value that TOT gives: 46831270 for 16,777,219, where rounding would give 46831271.
 fn totals(rt: &impl Print) -> io::Result<()> {
     title(rt, "totals")?;
-    total(rt, 0)?;
-    total(rt, 1)?;
-    total(rt, -1)?;
-    total(rt, 16777217)?;
-    total(rt, 16777219)?;
-    total(rt, 16777251)?;
-    total(rt, -16777217)?;
-    total(rt, -16777219)?;
-    total(rt, 1000000000000)?;
-    total(rt, -1000000000000)?;
-    total(rt, 999999995904)?;
-    total(rt, -1099511627775)?;
-    total(rt, i64::MAX)?;
-    total(rt, i64::MIN)?;
-    total(rt, -9223372036854775807)
+    for z in [
+        0,
+        1,
+        -1,
+        16777217,
+        16777219,
+        16777251,
+        -16777217,
+        -16777219,
+        1000000000000,
+        -1000000000000,
+        999999995904,
+        -1099511627775,
+        i64::MAX,
+        i64::MIN,
+        -9223372036854775807,
+    ] {
+        total(rt, z)?;
+    }
+    Ok(())
 }
 
 fn main(rt: HostRuntime) -> io::Result<()> {
