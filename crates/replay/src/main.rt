@@ -267,6 +267,7 @@ fn flushed(rt: &(impl Print + Eprint), s: State, out: &[u8]) -> State
         return next;
     }
     if place > out.len() {
+        failed(rt, "standard output", io::ErrorKind::WriteZero.into());
         next.open = false;
         return next;
     }
