@@ -315,14 +315,10 @@ fn part(rt: &impl Print, block: u8, length: usize) -> io::Result<()> {
 }
 
 fn parts(rt: &impl Print, length: usize) -> io::Result<()> {
-    part(rt, 0, length)?;
-    part(rt, 1, length)?;
-    part(rt, 2, length)?;
-    part(rt, 3, length)?;
-    part(rt, 4, length)?;
-    part(rt, 5, length)?;
-    part(rt, 6, length)?;
-    part(rt, 255, length)
+    for block in [0, 1, 2, 3, 4, 5, 6, 255] {
+        part(rt, block, length)?;
+    }
+    Ok(())
 }
 
 // The numbers of the refusals, after that of an accepted call.
@@ -395,87 +391,69 @@ fn statuses(rt: &impl Print) -> io::Result<()> {
     let mut at = text::put_bytes(&mut line, 0, b"agree");
     at = put_number(&mut line, at, agreeing());
     show(rt, &mut line, at)?;
-    numbers(rt, 0x00)?;
-    numbers(rt, 0x1F)?;
-    numbers(rt, 0x4C)?;
-    numbers(rt, 0x4E)?;
-    numbers(rt, 0x80)?;
-    numbers(rt, 0x89)?;
-    numbers(rt, 0x8E)?;
-    numbers(rt, 0xA0)?;
-    numbers(rt, 0xA3)?;
-    numbers(rt, 0xBC)?;
-    numbers(rt, 0xC0)?;
-    numbers(rt, 0xFF)?;
-    built(rt, 3)?;
-    built(rt, 15)?;
-    built(rt, 16)?;
-    built(rt, 255)
+    for status in [
+        0x00, 0x1F, 0x4C, 0x4E, 0x80, 0x89, 0x8E, 0xA0, 0xA3, 0xBC, 0xC0, 0xFF,
+    ] {
+        numbers(rt, status)?;
+    }
+    for sub_status in [3, 15, 16, 255] {
+        built(rt, sub_status)?;
+    }
+    Ok(())
 }
 
 // Zeros, subnormals, the ends of the finite numbers, infinities and patterns of NaN.
 fn values(rt: &impl Print) -> io::Result<()> {
-    there_and_back(rt, 0x0000_0000, 0x00)?;
-    there_and_back(rt, 0x8000_0000, 0x80)?;
-    there_and_back(rt, 0x0000_0001, 0x4C)?;
-    there_and_back(rt, 0x807F_FFFF, 0x1F)?;
-    there_and_back(rt, 0x0080_0000, 0x8E)?;
-    there_and_back(rt, 0x4248_0000, 0x80)?;
-    there_and_back(rt, 0x7F7F_FFFF, 0xFF)?;
-    there_and_back(rt, 0x7F80_0000, 0x10)?;
-    there_and_back(rt, 0xFF80_0000, 0x04)?;
-    there_and_back(rt, 0x7F80_0001, 0xC0)?;
-    there_and_back(rt, 0x7FC0_0000, 0xA0)?;
-    there_and_back(rt, 0xFFFF_FFFF, 0x01)?;
-    there_and_back(rt, 0x0102_0304, 0x05)
+    for (bits, status) in [
+        (0x0000_0000, 0x00),
+        (0x8000_0000, 0x80),
+        (0x0000_0001, 0x4C),
+        (0x807F_FFFF, 0x1F),
+        (0x0080_0000, 0x8E),
+        (0x4248_0000, 0x80),
+        (0x7F7F_FFFF, 0xFF),
+        (0x7F80_0000, 0x10),
+        (0xFF80_0000, 0x04),
+        (0x7F80_0001, 0xC0),
+        (0x7FC0_0000, 0xA0),
+        (0xFFFF_FFFF, 0x01),
+        (0x0102_0304, 0x05),
+    ] {
+        there_and_back(rt, bits, status)?;
+    }
+    Ok(())
 }
 
 // Values and statuses, places and lengths at their ends.
 fn discretes(rt: &impl Print) -> io::Result<()> {
-    discrete_there_and_back(rt, 0, 0x80)?;
-    discrete_there_and_back(rt, 1, 0xC0)?;
-    discrete_there_and_back(rt, 7, 0x04)?;
-    discrete_there_and_back(rt, 255, 0xFF)?;
-    put_discrete_at(rt, 0)?;
-    put_discrete_at(rt, 1)?;
-    put_discrete_at(rt, 2)?;
-    put_discrete_at(rt, 3)?;
-    put_discrete_at(rt, 4)?;
-    put_discrete_at(rt, 18446744073709551614)?;
-    put_discrete_at(rt, 18446744073709551615)?;
-    discrete_of(rt, 0)?;
-    discrete_of(rt, 1)?;
-    discrete_of(rt, 2)?;
-    discrete_of(rt, 3)?;
-    discrete_of(rt, 5)
+    for (value, status) in [(0, 0x80), (1, 0xC0), (7, 0x04), (255, 0xFF)] {
+        discrete_there_and_back(rt, value, status)?;
+    }
+    for place in [0, 1, 2, 3, 4, 18446744073709551614, 18446744073709551615] {
+        put_discrete_at(rt, place)?;
+    }
+    for length in [0, 1, 2, 3, 5] {
+        discrete_of(rt, length)?;
+    }
+    Ok(())
 }
 
 fn main(rt: HostRuntime) -> io::Result<()> {
     all_parts(&rt)?;
     statuses(&rt)?;
     values(&rt)?;
-    put_at(&rt, 0)?;
-    put_at(&rt, 1)?;
-    put_at(&rt, 3)?;
-    put_at(&rt, 4)?;
-    put_at(&rt, 8)?;
-    put_at(&rt, 9)?;
-    put_at(&rt, 18446744073709551611)?;
-    put_at(&rt, 18446744073709551615)?;
-    pair_of(&rt, 0)?;
-    pair_of(&rt, 4)?;
-    pair_of(&rt, 5)?;
-    pair_of(&rt, 6)?;
+    for place in [0, 1, 3, 4, 8, 9, 18446744073709551611, 18446744073709551615] {
+        put_at(&rt, place)?;
+    }
+    for length in [0, 4, 5, 6] {
+        pair_of(&rt, length)?;
+    }
     discretes(&rt)?;
-    image(&rt, 0)?;
-    image(&rt, 15)?;
-    image(&rt, 18)?;
-    image(&rt, 19)?;
-    image(&rt, 20)?;
-    image(&rt, 22)?;
-    parts(&rt, 15)?;
-    parts(&rt, 18)?;
-    parts(&rt, 19)?;
-    parts(&rt, 20)?;
+    for length in [0, 15, 18, 19, 20, 22] {
+        image(&rt, length)?;
+    }
+    for length in [15, 18, 19, 20] {
+        parts(&rt, length)?;
+    }
     refusals(&rt)
 }
