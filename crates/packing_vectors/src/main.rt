@@ -48,26 +48,30 @@ fn show_answer(rt: &impl Print, answer: Answer) -> io::Result<()> {
 
 // A line for each struct of the device, and the byte after them.
 fn show_structs(rt: &impl Print, bytes: &[u8]) -> io::Result<()> {
-    show_words(rt, "  version, WRITE_LOCKING", bytes, 0, 2)?;
-    show_words(rt, "  AIN settings", bytes, 2, 16)?;
-    show_words(rt, "  AIN state", bytes, 16, 29)?;
-    show_words(rt, "  AIN ST_REV", bytes, 29, 30)?;
-    show_words(rt, "  AIN table, count", bytes, 30, 31)?;
-    show_words(rt, "  pairs 1 to 7", bytes, 31, 45)?;
-    show_words(rt, "  pairs 8 to 14", bytes, 45, 59)?;
-    show_words(rt, "  pairs 15 to 21", bytes, 59, 73)?;
-    show_words(rt, "  TOT settings", bytes, 73, 78)?;
-    show_words(rt, "  TOT state", bytes, 78, 86)?;
-    show_words(rt, "  TOT ST_REV", bytes, 86, 87)?;
-    show_words(rt, "  AO settings", bytes, 87, 96)?;
-    show_words(rt, "  AO state", bytes, 96, 109)?;
-    show_words(rt, "  AO ST_REV", bytes, 109, 110)?;
-    show_words(rt, "  DI settings", bytes, 110, 114)?;
-    show_words(rt, "  DI state", bytes, 114, 121)?;
-    show_words(rt, "  DI ST_REV", bytes, 121, 122)?;
-    show_words(rt, "  DO settings", bytes, 122, 127)?;
-    show_words(rt, "  DO state", bytes, 127, 140)?;
-    show_words(rt, "  DO ST_REV", bytes, 140, 141)?;
+    for (name, from, to) in [
+        ("  version, WRITE_LOCKING", 0, 2),
+        ("  AIN settings", 2, 16),
+        ("  AIN state", 16, 29),
+        ("  AIN ST_REV", 29, 30),
+        ("  AIN table, count", 30, 31),
+        ("  pairs 1 to 7", 31, 45),
+        ("  pairs 8 to 14", 45, 59),
+        ("  pairs 15 to 21", 59, 73),
+        ("  TOT settings", 73, 78),
+        ("  TOT state", 78, 86),
+        ("  TOT ST_REV", 86, 87),
+        ("  AO settings", 87, 96),
+        ("  AO state", 96, 109),
+        ("  AO ST_REV", 109, 110),
+        ("  DI settings", 110, 114),
+        ("  DI state", 114, 121),
+        ("  DI ST_REV", 121, 122),
+        ("  DO settings", 122, 127),
+        ("  DO state", 127, 140),
+        ("  DO ST_REV", 140, 141),
+    ] {
+        show_words(rt, name, bytes, from, to)?;
+    }
     print!(rt; "  after them ")?;
     show_byte(rt, bytes, PACKED)?;
     println!(rt)
@@ -273,38 +277,47 @@ fn short(rt: &impl Print) -> io::Result<()> {
 
 fn words(rt: &impl Print) -> io::Result<()> {
     let d = used();
-    changed(rt, "version 0", d, 0, 0)?;
-    changed(rt, "version 1", d, 0, 1)?;
-    changed(rt, "version 2", d, 0, 2)?;
-    changed(rt, "version 0x03000000", d, 0, 0x300_0000)?;
-    changed(rt, "a filter flag of 0", d, 19, 0)?;
-    changed(rt, "a filter flag of 2", d, 19, 2)?;
-    changed(rt, "a flag of 0x80000001", d, 19, 0x8000_0001)?;
-    changed(rt, "a status of 255", d, 17, 255)?;
-    changed(rt, "a status of 256", d, 17, 256)?;
-    changed(rt, "TOT's operator status of 0x180", d, 85, 0x180)?;
-    changed(rt, "ST_REV 65535", d, 29, 65535)?;
-    changed(rt, "ST_REV 65536", d, 29, 65536)?;
-    changed(rt, "a NaN 0x7FC00000", d, 8, 0x7fc0_0000)?;
-    changed(rt, "a NaN 0x7FC00001", d, 8, 0x7fc0_0001)?;
-    changed(rt, "a NaN 0xFFC00000", d, 8, 0xffc0_0000)?;
-    changed(rt, "a NaN 0x7F800001", d, 8, 0x7f80_0001)?;
-    changed(rt, "a value's bits 0x7F800001", d, 16, 0x7f80_0001)?;
-    changed(rt, "LIN_TYPE 2", d, 7, 2)?;
-    changed(rt, "a count of 22", d, 30, 22)?;
-    changed(rt, "the first x a NaN 0x7FC00000", d, 31, 0x7fc0_0000)?;
-    changed(rt, "the first y a NaN 0xFFC00000", d, 32, 0xffc0_0000)?;
-    changed(rt, "the last x a NaN 0x7FC00001", d, 71, 0x7fc0_0001)?;
-    changed(rt, "the last y a NaN 0x7FC00000", d, 72, 0x7fc0_0000)?;
+    for (name, i, word) in [
+        ("version 0", 0, 0),
+        ("version 1", 0, 1),
+        ("version 2", 0, 2),
+        ("version 0x03000000", 0, 0x300_0000),
+        ("a filter flag of 0", 19, 0),
+        ("a filter flag of 2", 19, 2),
+        ("a flag of 0x80000001", 19, 0x8000_0001),
+        ("a status of 255", 17, 255),
+        ("a status of 256", 17, 256),
+        ("TOT's operator status of 0x180", 85, 0x180),
+        ("ST_REV 65535", 29, 65535),
+        ("ST_REV 65536", 29, 65536),
+        ("a NaN 0x7FC00000", 8, 0x7fc0_0000),
+        ("a NaN 0x7FC00001", 8, 0x7fc0_0001),
+        ("a NaN 0xFFC00000", 8, 0xffc0_0000),
+        ("a NaN 0x7F800001", 8, 0x7f80_0001),
+        ("a value's bits 0x7F800001", 16, 0x7f80_0001),
+        ("LIN_TYPE 2", 7, 2),
+        ("a count of 22", 30, 22),
+        ("the first x a NaN 0x7FC00000", 31, 0x7fc0_0000),
+        ("the first y a NaN 0xFFC00000", 32, 0xffc0_0000),
+        ("the last x a NaN 0x7FC00001", 71, 0x7fc0_0001),
+        ("the last y a NaN 0x7FC00000", 72, 0x7fc0_0000),
+    ] {
+        changed(rt, name, d, i, word)?;
+    }
     changed(rt, "a total of 2 ^ 63 - 1", with_total(d, i64::MAX), 0, 3)?;
-    changed(rt, "IFS of AO's last input 0x100", d, 108, 0x100)?;
-    changed(rt, "DI's OUT_D 255", d, 114, 255)?;
-    changed(rt, "DI's OUT_D 256", d, 114, 256)?;
-    changed(rt, "DI's kept flag of 2", d, 117, 2)?;
-    changed(rt, "DI's ST_REV 65536", d, 121, 65536)?;
-    changed(rt, "DO's SP_D 256", d, 133, 256)?;
-    changed(rt, "IFS of DO's last input 0x100", d, 139, 0x100)?;
-    changed(rt, "DO's ST_REV 65536", d, 140, 65536)
+    for (name, i, word) in [
+        ("IFS of AO's last input 0x100", 108, 0x100),
+        ("DI's OUT_D 255", 114, 255),
+        ("DI's OUT_D 256", 114, 256),
+        ("DI's kept flag of 2", 117, 2),
+        ("DI's ST_REV 65536", 121, 65536),
+        ("DO's SP_D 256", 133, 256),
+        ("IFS of DO's last input 0x100", 139, 0x100),
+        ("DO's ST_REV 65536", 140, 65536),
+    ] {
+        changed(rt, name, d, i, word)?;
+    }
+    Ok(())
 }
 
 fn with_total(d: Device, z: i64) -> Device {
