@@ -72,8 +72,9 @@ def below(crate):
 
 # ---- what a check says
 
-# An error that says no more than that a declaration rests on one which was refused.
-RESTS = re.compile(r"was not admitted|is not admitted|cannot be unfolded because it was not admitted")
+# An error that says no more than that declarations rest on one which was refused: which that is, and some of them.
+RESTS = re.compile(r"depends? on `([^`]+)`, which was (?:rejected|not admitted), (?:was|were) not checked: (.*)")
+ADMITTED = re.compile(r"(?:was|is) not admitted")
 # A proof that cites what is not there any more: it shows nothing about the contract.
 UNNAMED = re.compile(r"has no field `|can be named from here|has no `|not in scope|is no name|missing field\(s\) of")
 # A text that cannot be read as the proof language.
@@ -95,12 +96,17 @@ class Error:
         parts = self.file.split("/")
         # what antt cannot read of a contract or a definition, and a fact of these that it refuses
         stated, said = parts[0] in ("src", "specs"), re.sub(r"`[^`]*`", "", text)
+        rests = RESTS.search(text)
+        # what is refused by this error, and all that is refused or not checked as far as it says
+        self.refused = {name[1]} if name else {rests[1], *re.findall(r"(?:^|[,)] |and )([^\s,]+)(?= \(via|,|$| and)", rests[2])} if rests else set()
         if match["code"]:
             self.ground = "code"
+        elif rests:
+            self.ground = "rests"
         elif stated and (not name or UNREAD.search(said)):
             self.ground = "unread"
         else:
-            self.ground = "rests" if RESTS.search(text) else "unnamed" if UNNAMED.search(text) else "fact"
+            self.ground = "rests" if ADMITTED.search(text) else "unnamed" if UNNAMED.search(text) else "fact"
         self.text = text
         # the function whose proof it stands in, as the report names functions
         self.function = "::".join([self.crate] + parts[1:-1]) if parts[0] == "proofs" and parts[-1] in PROOF_FILES else None

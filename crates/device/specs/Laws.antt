@@ -1,6 +1,6 @@
 -- Laws of calls and reads, document 01, Parameters and Refused calls: what an accepted write, a refused call, a tick, a telegram and a warm start
 -- do to what reads give. They hold of every device. Assumes nothing.
-use Rattle.std.specs.Prelude.{◌≡◌, ℕ, ◌^◌, ◌<◌, Bool, true, false, cond, not, ◌&&◌, ◌||◌, T, List, ◌==◌, nat_eq, nat_lt, Float}
+use Rattle.std.specs.Prelude.{◌≡◌, ℕ, ◌^◌, ◌<◌, Bool, true, false, cond, not, ◌&&◌, ◌||◌, T, List, ◌==◌, nat_eq, nat_lt}
 use Rattle.std.proofs.Math.Path.{refl, sym, ap}
 use Rattle.std.proofs.Common.{◌∙◌, subst, arith, eqb-true, eq-eqb, ne_eqb}
 use Rattle.std.specs.Float.Ieee.Fits.{and_l, and_r, and_i}
@@ -10,7 +10,6 @@ use Rattle.wire.specs.declared.Answer.{Answer}
 use Rattle.wire.specs.declared.Answer.TheVariants.{Accepted, Refused}
 use Rattle.wire.specs.declared.Refusal.{Refusal}
 use Rattle.wire.specs.Bytes.{pair_of, discrete_of}
-use Rattle.scaling.specs.declared.Scale.{Scale}
 use Rattle.blocks.specs.Laws.{refused-keeps}
 use Rattle.ain.specs.declared.State.{State as AinState}
 use Rattle.tot.specs.declared.State.{State as TotState}

@@ -1,7 +1,7 @@
 -- What calls on the device that `replay` hands back answer, by the claim about its list of calls. Assumes nothing.
 use Prim.Native.Nat.{ℕ, ◌<◌}
-use mathlib.Core.Path.{◌≡◌, refl, sym, ap, ◌∙◌, subst}
-use mathlib.Core.Bool.{Bool, ◌&&◌}
+use mathlib.Core.Path.{◌≡◌, refl, ap, ◌∙◌, subst}
+use mathlib.Core.Bool.{Bool}
 use mathlib.Core.List.{List, [], ◌∷◌, ◌++◌}
 use mathlib.Core.Option.{Option, none, some}
 use lib.Dec.{T}
@@ -9,7 +9,6 @@ use lib.Ieee.Fits.{and_l, and_r, and_i}
 use lib.ListN.{length, get_or}
 use Rattle.wire.specs.declared.Pair.{Pair}
 use Rattle.wire.specs.declared.Discrete.{Discrete}
-use Rattle.wire.specs.declared.Answer.{Answer}
 use Rattle.wire.specs.Image.{image_bytes}
 use Rattle.device.specs.declared.Device.{Device}
 use Rattle.device.specs.Factory.{factory_device}
@@ -20,7 +19,7 @@ use Rattle.history.specs.Past.{History, start, ◌▷◌, Each}
 use Rattle.history.specs.Calls.{Fed, ticked_by, seen_of, Call, tick, write, load, Event, fitting, all_fit, after, event, reached_from, trace_from, reached, trace}
 use Rattle.history.specs.Rules.{accepted, reading, total, order, order_d, to_write, to_telegram, to_load}
 use Rattle.history.specs.Rules as Rules
-use Rattle.history.specs.Claim.{TickClaim, Tick, answers, Claim}
+use Rattle.history.specs.Claim.{TickClaim, Tick, Claim}
 use Rattle.history.specs.Encoded.{calls_from, decoded, Replays, listed, heard}
 use Rattle.history.proofs.Theorem.{demand-3}
 use Rattle.history.proofs.Run.{fit_o, all-fit}

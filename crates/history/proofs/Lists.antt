@@ -1,15 +1,12 @@
 -- The rules' lists of parameters beside the rows of the table: the same blocks and numbers, and the same classes. Assumes nothing.
 use Prim.Native.Nat.{ℕ, ◌<◌}
 use native.Mathlib.Omega.{arith}
-use mathlib.Core.Path.{◌≡◌, refl, sym, ap, ◌∙◌, subst}
-use mathlib.Core.Bool.{Bool, true, false, not, ◌&&◌, ◌||◌, cond, true≢false}
+use mathlib.Core.Path.{◌≡◌, refl, sym, subst}
+use mathlib.Core.Bool.{Bool, true, false, ◌&&◌, ◌||◌, cond, true≢false}
 use mathlib.Core.List.{List, [], ◌∷◌, ◌++◌}
 use lib.Dec.{T, eqb, ltb}
 use lib.Ieee.Fits.{and_l, and_r}
 use borrow.Author.Tests.{eqb-true, ne_eqb, lt-ltb, ltb-true}
-use Rattle.wire.specs.declared.Answer.{Answer}
-use Rattle.wire.specs.declared.Answer.TheVariants.{Accepted}
-use Rattle.wire.specs.Refusal.{ground}
 use Rattle.parameters.specs.declared.Entry.{Entry}
 use Rattle.parameters.specs.declared.Entry.TheVariants.{NoBlock, NoParameter, Parameter}
 use Rattle.parameters.specs.declared.Standing.{Standing}
@@ -20,7 +17,7 @@ use Rattle.parameters.specs.Refused as Refused
 use Rattle.parameters.specs.Laws.{by-block, no_block, by_rows, ◌also◌}
 use Rattle.history.specs.Past.{History}
 use Rattle.history.specs.Calls.{Event}
-use Rattle.history.specs.Rules.{among, has, statics, kepts, outputs, read_onlys, code, refused, allowed_in, tabled, to_write}
+use Rattle.history.specs.Rules.{among, has, statics, kepts, outputs, read_onlys, code, tabled, to_write}
 
 abbrev pub present : ℕ → Entry → Bool
 present number NoBlock = false

@@ -21,7 +21,6 @@ use Rattle.parameters.specs.Words.{allows_of}
 use Rattle.parameters.specs.Refused.{stored_entry}
 use Rattle.parameters.specs.Laws.{by_rows, ◌also◌, shown, shown_by, shown-back}
 use Rattle.parameters.specs.Table as Table
-use Rattle.device.specs.declared.Reading.{Reading}
 use Rattle.device.specs.declared.Reading.TheVariants.{Read}
 use Rattle.device.specs.Read.{bit, alarm_byte, ain_words, tot_words, ao_words, di_words, dout_words, discrete_words, words_of, read_of, read_by}
 use Rattle.history.specs.Past.{History}

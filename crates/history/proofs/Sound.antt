@@ -2,11 +2,10 @@
 use Prim.Native.Nat.{ℕ, ◌^◌}
 use mathlib.Core.Path.{◌≡◌, refl, subst}
 use mathlib.Core.Bool.{Bool, true, false, ◌&&◌, cond}
-use mathlib.Core.List.{List, [], ◌∷◌}
 use mathlib.Core.Option.{none, some}
 use lib.Dec.{T, eqb, ltb}
 use lib.Ieee.{le, of_bits, of_int, ne}
-use lib.Ieee.Fits.{and_l, and_r, and_i}
+use lib.Ieee.Fits.{and_i}
 use borrow.Author.Tests.{eqb-true}
 use Rattle.scaling.specs.Scaling.{allowed_scale}
 use Rattle.wire.specs.declared.Answer.{Answer}

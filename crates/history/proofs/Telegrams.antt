@@ -25,7 +25,6 @@ use Rattle.ao.specs.Telegram as Ao
 use Rattle.dout.specs.declared.State.{State as DoutState}
 use Rattle.dout.specs.State as Dout
 use Rattle.dout.specs.Telegram as Sluice
-use Rattle.device.specs.declared.Device.{Device}
 use Rattle.device.specs.Calls.{telegram_of, warm_started}
 use Rattle.history.specs.Past.{History, ◌▷◌, count, count_since, since, told, latest, carried}
 use Rattle.history.specs.Calls.{Event, telegram, warmed}

@@ -13,17 +13,12 @@ use lib.Ieee.Scale.{finite}
 use Rattle.numbers.specs.Floats.{float_of, bits_of}
 use Rattle.scaling.specs.Scaling.{fraction_of, at_fraction}
 use Rattle.linearisation.specs.Table.{table_of}
-use Rattle.wire.specs.declared.Pair.{Pair}
 use Rattle.blocks.specs.Common.{actual_mode}
 use Rattle.ain.specs.declared.State.{State as AinState}
-use Rattle.ain.specs.declared.Alarms.{Alarms}
 use Rattle.ain.specs.Alarm.{rises, falls, alarm_stands, alarms_of, no_alarms}
 use Rattle.ain.specs.Tick as Ain
 use Rattle.ain.specs.Laws.{good-exactly}
-use Rattle.tot.specs.declared.State.{State as TotState}
 use Rattle.tot.specs.Tick as Tot
-use Rattle.ao.specs.declared.State.{State as AoState}
-use Rattle.ao.specs.declared.Order.{Order}
 use Rattle.blocks.specs.FailSafe as FailSafe
 use Rattle.ao.specs.State.{input_from}
 use Rattle.blocks.specs.FailSafe.{OrderOf, GivenOf, scaled_or, leads_to, by_mode, case_of, Case, following, fallback, held, nothing_held, safety, fail_safe_acts, fail_safe_case, silence_after, after_tick}

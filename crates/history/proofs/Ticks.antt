@@ -17,7 +17,6 @@ use Rattle.linearisation.specs.declared.Table.{Table}
 use Rattle.linearisation.specs.Table.{table_of}
 use Rattle.wire.specs.declared.Pair.{Pair}
 use Rattle.wire.specs.Status.{quality_of}
-use Rattle.blocks.specs.declared.Kept.{Kept}
 use Rattle.blocks.specs.declared.Input.{Input}
 use Rattle.blocks.specs.declared.Input.TheVariants.{Usable, Bad}
 use Rattle.blocks.specs.Common.{actual_mode, input_status, as_pair}
@@ -26,20 +25,18 @@ use Rattle.blocks.specs.InputBlock.{present, last_usable_or, scaled_or_old, fail
 use Rattle.blocks.specs.Common as Common
 use Rattle.parameters.specs.declared.Allowed.TheVariants.{Mode}
 use Rattle.parameters.specs.Words.{allows_of}
-use Rattle.ain.specs.declared.Settings.{Settings as AinSettings}
 use Rattle.ain.specs.declared.State.{State as AinState}
 use Rattle.ain.specs.Scaling.{scaled_of, filtered}
 use Rattle.ain.specs.Alarm.{rises, falls, alarm_stands, alarms_of, no_alarms, alarm_status}
 use Rattle.ain.specs.Tick as Ain
 use Rattle.di.specs.declared.State.{State as DiState}
 use Rattle.di.specs.Tick as Di
-use Rattle.tot.specs.declared.Settings.{Settings as TotSettings}
 use Rattle.tot.specs.declared.State.{State as TotState}
-use Rattle.tot.specs.Total.{increment_of, wanted, next_total, value_given, given_bits, thousandths_of, sum_of}
+use Rattle.tot.specs.Total.{wanted, next_total, value_given, given_bits, thousandths_of, sum_of}
 use Rattle.tot.specs.Tick as Tot
 use Rattle.history.specs.Past.{History}
 use Rattle.history.specs.Calls.{Fed, Event}
-use Rattle.history.specs.Rules.{pair, code, float, scale, table, out_of_service, man, auto, rcas, mode_at, operator, old_out, bad_status, if_usable, Sensor, discrete_in, discrete, is_bit, exchanged, di_sensed, scaled, calculated, ain_bad, filter_value, last_usable, analog_in, ain_sensed, stands, stands_with, alarmed, last_or, word_or, sensed_fail_safe, sensed_auto, senses, tot_bad, rate_value, wanted_by, added_rate, adds, total_by, total, tot_status, tot_gives, given, held}
+use Rattle.history.specs.Rules.{pair, code, float, scale, table, out_of_service, man, auto, rcas, mode_at, operator, old_out, bad_status, if_usable, Sensor, discrete_in, discrete, is_bit, exchanged, di_sensed, scaled, calculated, ain_bad, filter_value, last_usable, analog_in, ain_sensed, stands_with, alarmed, last_or, word_or, sensed_fail_safe, sensed_auto, senses, tot_bad, rate_value, wanted_by, added_rate, adds, total_by, total, tot_status, tot_gives, given, held}
 use Rattle.history.proofs.Loads.{measured-is}
 use Rattle.history.proofs.Ruled.{kept_of, byte_of, alarms_at, ain_at, ain_in, tot_at, tot_in, di_at, di_in}
 

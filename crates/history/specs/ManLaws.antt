@@ -1,10 +1,10 @@
 -- What request 2 of document 02 comes to, for AIN, AO, DI and DO alike (Q3.8a): what was last given stands in Man; over the rules, and of every device.
 -- Assumes nothing.
 use Prim.Native.Nat.{ℕ}
-use Rattle.std.specs.Prelude.{◌≡◌, Bool, true, false, not, cond, ◌⊎◌, eqb}
+use Rattle.std.specs.Prelude.{◌≡◌, Bool, false, ◌⊎◌, eqb}
 use Rattle.std.proofs.Math.Path.{refl, ap}
 use Rattle.std.proofs.Common.{sym, ◌∙◌, subst, true≢false, inl, inr}
-use Rattle.std.proofs.Math.Option.{Option, none, some}
+use Rattle.std.proofs.Math.Option.{none, some}
 use Rattle.numbers.specs.Floats.{float_of}
 use Rattle.wire.specs.declared.Pair.{Pair}
 use Rattle.wire.specs.declared.Discrete.{Discrete}

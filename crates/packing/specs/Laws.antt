@@ -1,5 +1,5 @@
 -- Laws of the definitions in this folder, for proofs and for callers. Assumes nothing.
-use Rattle.std.specs.Prelude.{ℕ, zero, suc, ◌+◌, ◌*◌, ◌-◌, ◌/◌, ◌%◌, ◌^◌, ◌≤◌, ◌<◌, ◌≡◌, Bool, true, false, cond, ◌&&◌, get_or, take, drop, set, replicate, ℤ, pos, negsuc, T, leb, ltb, eqb, Float}
+use Rattle.std.specs.Prelude.{ℕ, zero, suc, ◌+◌, ◌*◌, ◌-◌, ◌/◌, ◌%◌, ◌^◌, ◌≤◌, ◌<◌, ◌≡◌, Bool, true, false, cond, ◌&&◌, get_or, take, drop, set, replicate, ℤ, pos, negsuc, T, eqb, Float}
 use Rattle.std.proofs.Common.{arith, sym, ◌∙◌, length-append, length-take, length-drop, take-append-drop, drop_of_length-le, take_at, take-suc, drop-cons, drop-drop}
 use Rattle.std.proofs.Math.Path.{refl, ap}
 use mathlib.Core.List.{List, [], ◌∷◌, ◌++◌, map, append_assoc, append-nil}
@@ -18,7 +18,6 @@ use Rattle.linearisation.specs.declared.Point.{Point}
 use Rattle.linearisation.specs.declared.Table.{Table}
 use Rattle.linearisation.specs.Table.{zero_point}
 use Rattle.device.specs.declared.Device.{Device}
-use Rattle.packing.specs.declared.Unpacked.{Unpacked}
 use Rattle.packing.specs.Words.{flag, twos, of_twos, first_words, ain_words, point_words, table_words, tot_words, ao_words, di_words, dout_words, words_of, Small}
 use Rattle.packing.specs.Words.{half, point, points, table}
 use Rattle.packing.specs.Words.{ain_settings, ain_state, ain_of, tot_settings, tot_state, tot_of, ao_settings, ao_state, ao_of, device_of}

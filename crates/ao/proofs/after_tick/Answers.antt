@@ -1,7 +1,6 @@
 -- `ao::after_tick` meets its contract: `silence_after` counts, and the rest is kept.
 -- Assumes nothing.
 use Rattle.blocks.specs.FailSafe.{after_tick}
-use borrow.Author.Rules.{rules}
 use Rattle.ao.proofs.after_tick.Goals as goal
 
 pub returns : goal.returns

@@ -1,6 +1,5 @@
 -- `ao::at_position` meets its contract: the order's float is that of the bits given.
 -- Assumes nothing.
-use borrow.Author.Rules.{rules}
 use Rattle.ao.proofs.at_position.Goals as goal
 
 pub returns : goal.returns

@@ -1,7 +1,6 @@
 -- `ao::case_in` meets its contract: the test of the mode is the definition's.
 -- Assumes nothing.
 use Rattle.ao.specs.Tick.{input_used}
-use borrow.Author.Rules.{rules}
 use Rattle.ao.proofs.case_in.Goals as goal
 
 pub returns-then-rcas : goal.returns-then-rcas

@@ -1,7 +1,6 @@
 -- `ao::fresh` meets its contract: a start with the value 0.
 -- Assumes nothing.
 use Rattle.ao.specs.State.{fresh_state}
-use borrow.Author.Rules.{rules}
 use Rattle.ao.proofs.fresh.Goals as goal
 
 pub returns : goal.returns

@@ -2,7 +2,6 @@
 -- Assumes nothing.
 use Rattle.blocks.specs.FailSafe.{after_telegram, usable, initiates}
 use Rattle.ao.specs.Telegram.{input_after}
-use borrow.Author.Rules.{rules}
 use Rattle.ao.proofs.heard.Goals as goal
 
 pub returns-then-finite : goal.returns-then-finite

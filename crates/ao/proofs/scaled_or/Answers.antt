@@ -1,7 +1,6 @@
 -- `ao::scaled_or` meets its contract: the test of the end result is the definition's.
 -- Assumes nothing.
 use Rattle.ao.specs.Tick.{out_of}
-use borrow.Author.Rules.{rules}
 use Rattle.ao.proofs.scaled_or.Goals as goal
 
 pub returns-then-finite : goal.returns-then-finite

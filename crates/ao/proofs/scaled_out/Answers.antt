@@ -1,7 +1,6 @@
 -- `ao::scaled_out` meets its contract: the operations of the definition, in its order.
 -- Assumes nothing.
 use Rattle.ao.specs.Tick.{scaled_out}
-use borrow.Author.Rules.{rules}
 use Rattle.ao.proofs.scaled_out.Goals as goal
 
 pub returns-then-closes : goal.returns-then-closes

@@ -1,7 +1,6 @@
 -- `ao::start` meets its contract: the code is the definition, with `no_telegrams` for either input.
 -- Assumes nothing.
 use Rattle.ao.specs.State.{started}
-use borrow.Author.Rules.{rules}
 use Rattle.ao.proofs.start.Goals as goal
 
 pub returns : goal.returns

@@ -1,7 +1,6 @@
 -- `ao::taken_on` meets its contract: the input named is replaced, the rest kept.
 -- Assumes nothing.
 use Rattle.ao.specs.Telegram.{taken_on}
-use borrow.Author.Rules.{rules}
 use Rattle.ao.proofs.taken_on.Goals as goal
 
 pub returns-then-first : goal.returns-then-first

@@ -2,7 +2,6 @@
 -- Assumes nothing.
 use Rattle.blocks.specs.Output.{telegram_by}
 use Rattle.ao.specs.Telegram.{telegram_of}
-use borrow.Author.Rules.{rules}
 use Rattle.ao.proofs.telegram.Goals as goal
 
 pub returns-then-unknown : goal.returns-then-unknown

@@ -1,7 +1,6 @@
 -- `ao::tick` meets its contract: each step is the definition's.
 -- Assumes nothing.
 use Rattle.ao.specs.Tick.{tick_of, ticked_with}
-use borrow.Author.Rules.{rules}
 use Rattle.ao.proofs.tick.Goals as goal
 
 pub returns : goal.returns

@@ -1,7 +1,6 @@
 -- `ao::warm_start` meets its contract: a start with OUT's value.
 -- Assumes nothing.
 use Rattle.ao.specs.State.{warm_started}
-use borrow.Author.Rules.{rules}
 use Rattle.ao.proofs.warm_start.Goals as goal
 
 pub returns : goal.returns

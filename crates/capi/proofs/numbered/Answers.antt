@@ -1,6 +1,5 @@
 -- `capi::numbered` meets its contract: the device as it is, the answer as its number.
 -- Assumes nothing.
-use borrow.Author.Rules.{rules}
 use Rattle.capi.proofs.numbered.Goals as goal
 
 pub returns : goal.returns

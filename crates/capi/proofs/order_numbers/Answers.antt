@@ -1,6 +1,5 @@
 -- `capi::order_numbers` meets its contract: each arm gives the numbers of its case.
 -- Assumes nothing.
-use borrow.Author.Rules.{rules}
 use Rattle.capi.proofs.order_numbers.Goals as goal
 
 pub returns-in-Position : goal.returns-in-Position

@@ -1,7 +1,6 @@
 -- `capi::outputs_ticked` meets its contract: it is the blocks' ticks, the rest of each block kept and the orders as numbers.
 -- Assumes nothing.
 use Rattle.capi.specs.Blocks.{outputs_ticked}
-use borrow.Author.Rules.{rules}
 use Rattle.capi.proofs.outputs_ticked.Goals as goal
 
 pub returns : goal.returns

@@ -1,6 +1,5 @@
 -- `capi::packed` meets its contract: it is `packing`'s call, with the answer as a number.
 -- Assumes nothing.
-use borrow.Author.Rules.{rules}
 use Rattle.capi.proofs.packed.Goals as goal
 
 pub returns : goal.returns

@@ -1,6 +1,5 @@
 -- `capi::reading` meets its contract: each arm gives the numbers of its case of the device's answer.
 -- Assumes nothing.
-use borrow.Author.Rules.{rules}
 use Rattle.capi.proofs.reading.Goals as goal
 
 pub returns-in-Read : goal.returns-in-Read

@@ -1,6 +1,5 @@
 -- `capi::taken` meets its contract: it is the device's call, with the answer as a number.
 -- Assumes nothing.
-use borrow.Author.Rules.{rules}
 use Rattle.capi.proofs.taken.Goals as goal
 
 pub returns : goal.returns

@@ -1,7 +1,6 @@
 -- `capi::tot_ticked` meets its contract: it is the block's tick, the rest of the block kept.
 -- Assumes nothing.
 use Rattle.capi.specs.Blocks.{tot_ticked}
-use borrow.Author.Rules.{rules}
 use Rattle.capi.proofs.tot_ticked.Goals as goal
 
 pub returns : goal.returns

@@ -1,7 +1,6 @@
 -- `capi::unpacked` meets its contract: it is `packing`'s call, and the device given where that refuses.
 -- Assumes nothing.
 use mathlib.Core.Path.{sym}
-use borrow.Author.Rules.{rules}
 use Rattle.capi.proofs.unpacked.Goals as goal
 
 pub returns-then-good : goal.returns-then-good

@@ -1,6 +1,5 @@
 -- `capi::warmed` meets its contract: it is the device's call, which has nothing to refuse.
 -- Assumes nothing.
-use borrow.Author.Rules.{rules}
 use Rattle.capi.proofs.warmed.Goals as goal
 
 pub returns : goal.returns

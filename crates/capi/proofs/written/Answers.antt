@@ -1,6 +1,5 @@
 -- `capi::written` meets its contract: it is the device's call, with the answer as a number.
 -- Assumes nothing.
-use borrow.Author.Rules.{rules}
 use Rattle.capi.proofs.written.Goals as goal
 
 pub returns : goal.returns

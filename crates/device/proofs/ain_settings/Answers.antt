@@ -1,6 +1,6 @@
 -- `device::ain_settings` meets its contract: each arm replaces the field of its number.
 -- Assumes nothing.
-use Rattle.std.proofs.Common.{rules, ne_eqb}
+use Rattle.std.proofs.Common.{ne_eqb}
 use Rattle.device.specs.Stored.{ain_settings}
 use Rattle.device.proofs.ain_settings.Goals as goal
 

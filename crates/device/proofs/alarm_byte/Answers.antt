@@ -1,7 +1,6 @@
 -- `device::alarm_byte` meets its contract: each alarm has its place in the sum.
 -- Assumes nothing.
 use Rattle.device.specs.Read.{alarm_byte}
-use Rattle.std.proofs.Common.{rules}
 use Rattle.device.proofs.alarm_byte.Goals as goal
 
 pub returns : goal.returns

@@ -1,6 +1,6 @@
 -- `device::ao_settings` meets its contract: each arm replaces the field of its number.
 -- Assumes nothing.
-use Rattle.std.proofs.Common.{rules, ne_eqb}
+use Rattle.std.proofs.Common.{ne_eqb}
 use Rattle.device.specs.Stored.{ao_settings}
 use Rattle.device.proofs.ao_settings.Goals as goal
 

@@ -1,6 +1,5 @@
 -- `device::discrete_pair` meets its contract: a byte of each word.
 -- Assumes nothing.
-use Rattle.std.proofs.Common.{rules}
 use Rattle.device.proofs.discrete_pair.Goals as goal
 
 pub returns : goal.returns

@@ -1,6 +1,6 @@
 -- `device::dout_words` meets its contract: each arm's number picks the words.
 -- Assumes nothing.
-use Rattle.std.proofs.Common.{rules, ne_eqb}
+use Rattle.std.proofs.Common.{ne_eqb}
 use Rattle.device.specs.Read.{discrete_words, dout_words}
 use Rattle.device.proofs.dout_words.Goals as goal
 

@@ -1,6 +1,6 @@
 -- `device::dout_written` meets its contract: the number picks what changes.
 -- Assumes nothing.
-use Rattle.std.proofs.Common.{rules, ne_eqb}
+use Rattle.std.proofs.Common.{ne_eqb}
 use Rattle.device.specs.Stored.{operator_by, dout_written}
 use Rattle.device.proofs.dout_written.Goals as goal
 

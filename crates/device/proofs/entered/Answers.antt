@@ -1,6 +1,6 @@
 -- `device::entered` meets its contract: the number picks whose pair it is.
 -- Assumes nothing.
-use Rattle.std.proofs.Common.{rules, ne_eqb}
+use Rattle.std.proofs.Common.{ne_eqb}
 use Rattle.device.specs.Stored.{entered_by}
 use Rattle.device.proofs.entered.Goals as goal
 

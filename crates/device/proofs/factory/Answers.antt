@@ -2,7 +2,6 @@
 -- Assumes nothing.
 use Rattle.device.specs.Factory.{factory_device}
 use Rattle.parameters.specs.Table.{default_of, default_in, rows_of, physical}
-use Rattle.std.proofs.Common.{rules}
 use Rattle.device.proofs.factory.Goals as goal
 
 pub returns : goal.returns

@@ -1,6 +1,5 @@
 -- `device::float_words` meets its contract: one call.
 -- Assumes nothing.
-use Rattle.std.proofs.Common.{rules}
 use Rattle.device.proofs.float_words.Goals as goal
 
 pub returns : goal.returns

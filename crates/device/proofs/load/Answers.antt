@@ -1,7 +1,6 @@
 -- `device::load` meets its contract: the lock is tested first, then the answer to the bytes picks the device.
 -- Assumes nothing.
 use Rattle.device.specs.Calls.{load_of}
-use Rattle.std.proofs.Common.{rules}
 use Rattle.device.proofs.load.Goals as goal
 
 pub returns-then-locked : goal.returns-then-locked

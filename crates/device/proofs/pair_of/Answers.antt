@@ -1,6 +1,5 @@
 -- `device::pair_of` meets its contract.
 -- Assumes nothing.
-use Rattle.std.proofs.Common.{rules}
 use Rattle.device.proofs.pair_of.Goals as goal
 
 pub returns : goal.returns

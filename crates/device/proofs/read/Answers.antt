@@ -1,7 +1,6 @@
 -- `device::read` meets its contract: the entry picks the answer.
 -- Assumes nothing.
 use Rattle.device.specs.Read.{read_of}
-use Rattle.std.proofs.Common.{rules}
 use Rattle.device.proofs.read.Goals as goal
 
 pub returns-in-NoBlock : goal.returns-in-NoBlock

@@ -1,7 +1,6 @@
 -- `device::rev_after` meets its contract: the sum wraps at 65,536.
 -- Assumes nothing.
 use Rattle.device.specs.Stored.{rev_after}
-use Rattle.std.proofs.Common.{rules}
 use Rattle.device.proofs.rev_after.Goals as goal
 
 pub returns-then-counted : goal.returns-then-counted

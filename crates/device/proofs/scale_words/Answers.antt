@@ -1,6 +1,5 @@
 -- `device::scale_words` meets its contract: one call after the other.
 -- Assumes nothing.
-use Rattle.std.proofs.Common.{rules}
 use Rattle.device.proofs.scale_words.Goals as goal
 
 pub returns : goal.returns

@@ -1,6 +1,5 @@
 -- `device::standing` meets its contract: fields of the device, and whether it has a table.
 -- Assumes nothing.
-use Rattle.std.proofs.Common.{rules}
 use Rattle.device.proofs.standing.Goals as goal
 
 pub returns : goal.returns

@@ -1,6 +1,6 @@
 -- `device::stored` meets its contract: the block picks what changes.
 -- Assumes nothing.
-use Rattle.std.proofs.Common.{rules, ne_eqb}
+use Rattle.std.proofs.Common.{ne_eqb}
 use Rattle.device.specs.Stored.{stored_in}
 use Rattle.device.proofs.stored.Goals as goal
 

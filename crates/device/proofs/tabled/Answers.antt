@@ -1,6 +1,5 @@
 -- `device::tabled` meets its contract: the block with the table, and ST_REV as one more write leaves it.
 -- Assumes nothing.
-use Rattle.std.proofs.Common.{rules}
 use Rattle.device.proofs.tabled.Goals as goal
 
 pub returns : goal.returns

@@ -1,7 +1,6 @@
 -- `device::telegram` meets its contract: the input picks the block, whose call gives state and answer.
 -- Assumes nothing.
 use Rattle.device.specs.Calls.{telegram_of}
-use Rattle.std.proofs.Common.{rules}
 use Rattle.device.proofs.telegram.Goals as goal
 
 pub returns-then-discrete : goal.returns-then-discrete

@@ -1,7 +1,6 @@
 -- `device::tick` meets its contract: each block's call gives its state.
 -- Assumes nothing.
 use Rattle.device.specs.Calls.{tick_of}
-use Rattle.std.proofs.Common.{rules}
 use Rattle.device.proofs.tick.Goals as goal
 
 pub returns : goal.returns

@@ -1,6 +1,6 @@
 -- `device::tot_settings` meets its contract: each arm replaces the field of its number.
 -- Assumes nothing.
-use Rattle.std.proofs.Common.{rules, ne_eqb}
+use Rattle.std.proofs.Common.{ne_eqb}
 use Rattle.device.specs.Stored.{tot_settings}
 use Rattle.device.proofs.tot_settings.Goals as goal
 

@@ -1,6 +1,6 @@
 -- `device::tot_words` meets its contract: each arm's number picks the words.
 -- Assumes nothing.
-use Rattle.std.proofs.Common.{rules, ne_eqb}
+use Rattle.std.proofs.Common.{ne_eqb}
 use Rattle.device.specs.Read.{tot_words}
 use Rattle.device.proofs.tot_words.Goals as goal
 

@@ -1,6 +1,6 @@
 -- `device::tot_written` meets its contract: the number picks what changes.
 -- Assumes nothing.
-use Rattle.std.proofs.Common.{rules, ne_eqb}
+use Rattle.std.proofs.Common.{ne_eqb}
 use Rattle.device.specs.Stored.{tot_written}
 use Rattle.device.proofs.tot_written.Goals as goal
 

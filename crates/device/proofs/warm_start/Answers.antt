@@ -1,7 +1,6 @@
 -- `device::warm_start` meets its contract: each block's call gives its state.
 -- Assumes nothing.
 use Rattle.device.specs.Calls.{warm_started}
-use Rattle.std.proofs.Common.{rules}
 use Rattle.device.proofs.warm_start.Goals as goal
 
 pub returns : goal.returns

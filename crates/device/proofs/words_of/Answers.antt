@@ -1,6 +1,6 @@
 -- `device::words_of` meets its contract: the block picks the words.
 -- Assumes nothing.
-use Rattle.std.proofs.Common.{rules, ne_eqb}
+use Rattle.std.proofs.Common.{ne_eqb}
 use Rattle.device.specs.Read.{words_of}
 use Rattle.device.proofs.words_of.Goals as goal
 

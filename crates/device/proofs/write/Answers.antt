@@ -1,7 +1,6 @@
 -- `device::write` meets its contract: the answer picks the device.
 -- Assumes nothing.
 use Rattle.device.specs.Calls.{write_of}
-use Rattle.std.proofs.Common.{rules}
 use Rattle.device.proofs.write.Goals as goal
 
 pub returns-in-Accepted : goal.returns-in-Accepted

@@ -1,7 +1,6 @@
 -- `di::auto_tick` meets its contract: the input status picks the case.
 -- Assumes nothing.
 use Rattle.di.specs.Tick.{auto_tick, input_of}
-use borrow.Author.Rules.{rules}
 use Rattle.di.proofs.auto_tick.Goals as goal
 
 pub returns-in-Usable : goal.returns-in-Usable

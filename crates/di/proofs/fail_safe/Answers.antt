@@ -2,7 +2,6 @@
 -- Assumes nothing.
 use Rattle.blocks.specs.InputBlock.{fail_safe_pair}
 use Rattle.di.specs.Tick.{fail_safe_out}
-use borrow.Author.Rules.{rules}
 use Rattle.di.proofs.fail_safe.Goals as goal
 
 pub returns-then-by_value : goal.returns-then-by_value

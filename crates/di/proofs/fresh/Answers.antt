@@ -1,6 +1,5 @@
 -- `di::fresh` meets its contract: each field is what the call before it gives.
 -- Assumes nothing.
-use borrow.Author.Rules.{rules}
 use Rattle.di.proofs.fresh.Goals as goal
 
 pub returns : goal.returns

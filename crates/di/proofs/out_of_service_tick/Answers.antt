@@ -1,7 +1,6 @@
 -- `di::out_of_service_tick` meets its contract: each field is what the call before it gives.
 -- Assumes nothing.
 use Rattle.di.specs.Tick.{out_of_service_tick}
-use borrow.Author.Rules.{rules}
 use Rattle.di.proofs.out_of_service_tick.Goals as goal
 
 pub returns : goal.returns

@@ -1,7 +1,6 @@
 -- `di::tick` meets its contract: the mode picks the case.
 -- Assumes nothing.
 use Rattle.di.specs.Tick.{tick_of, tick_by}
-use borrow.Author.Rules.{rules}
 use Rattle.di.proofs.tick.Goals as goal
 
 pub returns-then-off : goal.returns-then-off

@@ -1,7 +1,6 @@
 -- `di::unusable_tick` meets its contract: each field is what the call before it gives.
 -- Assumes nothing.
 use Rattle.di.specs.Tick.{unusable_tick}
-use borrow.Author.Rules.{rules}
 use Rattle.di.proofs.unusable_tick.Goals as goal
 
 pub returns : goal.returns

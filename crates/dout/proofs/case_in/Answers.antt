@@ -1,7 +1,6 @@
 -- `dout::case_in` meets its contract: the test of the mode is the definition's.
 -- Assumes nothing.
 use Rattle.dout.specs.Tick.{input_used}
-use borrow.Author.Rules.{rules}
 use Rattle.dout.proofs.case_in.Goals as goal
 
 pub returns-then-rcas : goal.returns-then-rcas

@@ -1,7 +1,6 @@
 -- `dout::case_of` meets its contract: the decision and the case are the definition's.
 -- Assumes nothing.
 use Rattle.blocks.specs.FailSafe.{case_of}
-use borrow.Author.Rules.{rules}
 use Rattle.dout.proofs.case_of.Goals as goal
 
 pub returns-then-acts : goal.returns-then-acts

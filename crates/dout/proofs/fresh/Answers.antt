@@ -1,7 +1,6 @@
 -- `dout::fresh` meets its contract: a start with the value 0.
 -- Assumes nothing.
 use Rattle.dout.specs.State.{fresh_state}
-use borrow.Author.Rules.{rules}
 use Rattle.dout.proofs.fresh.Goals as goal
 
 pub returns : goal.returns

@@ -2,7 +2,6 @@
 -- Assumes nothing.
 use Rattle.blocks.specs.FailSafe.{leads_to}
 use Rattle.dout.specs.Tick.{given_by}
-use borrow.Author.Rules.{rules}
 use Rattle.dout.proofs.given_by.Goals as goal
 
 pub returns-in-Following : goal.returns-in-Following

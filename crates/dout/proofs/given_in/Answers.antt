@@ -2,7 +2,6 @@
 -- Assumes nothing.
 use Rattle.blocks.specs.FailSafe.{by_mode}
 use Rattle.dout.specs.Tick.{given_by_input, given_in}
-use borrow.Author.Rules.{rules}
 use Rattle.dout.proofs.given_in.Goals as goal
 
 pub returns-then-out_of_service : goal.returns-then-out_of_service

@@ -2,7 +2,6 @@
 -- Assumes nothing.
 use Rattle.blocks.specs.FailSafe.{after_telegram, usable, initiates}
 use Rattle.dout.specs.Telegram.{input_after}
-use borrow.Author.Rules.{rules}
 use Rattle.dout.proofs.heard.Goals as goal
 
 pub returns-then-discrete : goal.returns-then-discrete

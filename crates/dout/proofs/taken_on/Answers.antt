@@ -1,7 +1,6 @@
 -- `dout::taken_on` meets its contract: the input named is replaced, the rest kept.
 -- Assumes nothing.
 use Rattle.dout.specs.Telegram.{taken_on}
-use borrow.Author.Rules.{rules}
 use Rattle.dout.proofs.taken_on.Goals as goal
 
 pub returns-then-first : goal.returns-then-first

@@ -2,7 +2,6 @@
 -- Assumes nothing.
 use Rattle.blocks.specs.Output.{telegram_by}
 use Rattle.dout.specs.Telegram.{telegram_of}
-use borrow.Author.Rules.{rules}
 use Rattle.dout.proofs.telegram.Goals as goal
 
 pub returns-then-unknown : goal.returns-then-unknown

@@ -1,7 +1,6 @@
 -- `dout::tick` meets its contract: each step is the definition's.
 -- Assumes nothing.
 use Rattle.dout.specs.Tick.{tick_of, ticked_with}
-use borrow.Author.Rules.{rules}
 use Rattle.dout.proofs.tick.Goals as goal
 
 pub returns : goal.returns

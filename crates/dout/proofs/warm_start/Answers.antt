@@ -1,7 +1,6 @@
 -- `dout::warm_start` meets its contract: a start with OUT's value.
 -- Assumes nothing.
 use Rattle.dout.specs.State.{warm_started}
-use borrow.Author.Rules.{rules}
 use Rattle.dout.proofs.warm_start.Goals as goal
 
 pub returns : goal.returns

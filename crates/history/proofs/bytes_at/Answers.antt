@@ -5,7 +5,6 @@ use mathlib.Core.Path.{◌≡◌, ap, sym, subst, ◌∙◌}
 use native.Mathlib.Nat.{le_of_lt, le_of_eq, add-sub_cancel_left}
 use lib.ListN.{take, drop, length, drop_of_length-le, length-drop}
 use lib.Seq.{take-nil, take_all}
-use borrow.Author.Rules.{rules}
 use Rattle.history.proofs.bytes_at.Goals as goal
 
 pub returns-then-s-from : goal.returns-then-s-from

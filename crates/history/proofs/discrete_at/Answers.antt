@@ -1,7 +1,6 @@
 -- `history::discrete_at` meets its contract: both bytes are what the calls before give.
 -- Assumes nothing.
 use Rattle.history.specs.Encoded.{discrete_at}
-use borrow.Author.Rules.{rules}
 use Rattle.history.proofs.discrete_at.Goals as goal
 
 pub returns : goal.returns

@@ -1,7 +1,6 @@
 -- `history::image_after` meets its contract: it is the image of the device that `replay` hands back.
 -- Assumes nothing.
 use mathlib.Core.Path.{◌∙◌}
-use borrow.Author.Rules.{rules}
 use Rattle.history.proofs.After.{image-is, image-answered}
 use Rattle.history.proofs.image_after.Goals as goal
 

@@ -3,7 +3,6 @@
 use native.Mathlib.Omega.{arith}
 use borrow.Author.Tests.{lt-ltb, le-ltb}
 use Rattle.history.specs.Encoded.{lent_by}
-use borrow.Author.Rules.{rules}
 use Rattle.history.proofs.lent_at.Goals as goal
 
 pub returns-then-left-head : goal.returns-then-left-head

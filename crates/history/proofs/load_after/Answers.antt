@@ -1,6 +1,5 @@
 -- `history::load_after` meets its contract: it is the answer of the device that `replay` hands back.
 -- Assumes nothing.
-use borrow.Author.Rules.{rules}
 use Rattle.history.proofs.After.{load_is}
 use Rattle.history.proofs.load_after.Goals as goal
 

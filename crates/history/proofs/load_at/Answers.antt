@@ -1,7 +1,6 @@
 -- `history::load_at` meets its contract: the bytes lent pick the definition's case.
 -- Assumes nothing.
 use Rattle.history.specs.Encoded.{load_found}
-use borrow.Author.Rules.{rules}
 use Rattle.history.proofs.load_at.Goals as goal
 
 pub returns-then-there : goal.returns-then-there

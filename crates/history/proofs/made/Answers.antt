@@ -1,7 +1,6 @@
 -- `history::made` meets its contract: each arm is its call.
 -- Assumes nothing.
 use Rattle.history.specs.Calls.{after}
-use borrow.Author.Rules.{rules}
 use Rattle.history.proofs.made.Goals as goal
 
 pub returns-in-WarmStart : goal.returns-in-WarmStart

@@ -1,6 +1,5 @@
 -- `history::order_after` meets its contract: it is the order of a tick of the device that `replay` hands back.
 -- Assumes nothing.
-use borrow.Author.Rules.{rules}
 use Rattle.history.proofs.After.{drive-is}
 use Rattle.history.proofs.order_after.Goals as goal
 

@@ -1,6 +1,5 @@
 -- `history::order_d_after` meets its contract: it is DO's order of a tick of the device that `replay` hands back.
 -- Assumes nothing.
-use borrow.Author.Rules.{rules}
 use Rattle.history.proofs.After.{drive-d-is}
 use Rattle.history.proofs.order_d_after.Goals as goal
 

@@ -1,7 +1,6 @@
 -- `history::pair_at` meets its contract: word and byte are what the calls before give.
 -- Assumes nothing.
 use Rattle.history.specs.Encoded.{pair_at}
-use borrow.Author.Rules.{rules}
 use Rattle.history.proofs.pair_at.Goals as goal
 
 pub returns : goal.returns

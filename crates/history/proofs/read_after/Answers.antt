@@ -1,7 +1,6 @@
 -- `history::read_after` meets its contract: the device that `replay` hands back is read.
 -- Assumes nothing.
 use mathlib.Core.Path.{◌∙◌}
-use borrow.Author.Rules.{rules}
 use Rattle.history.proofs.After.{read_is}
 use Rattle.history.proofs.read_after.Goals as goal
 

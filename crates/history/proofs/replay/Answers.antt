@@ -2,11 +2,9 @@
 -- Assumes nothing.
 use Prim.Native.Nat.{ℕ}
 use native.Mathlib.Omega.{arith}
-use mathlib.Core.Path.{◌≡◌, ap, sym, ◌∙◌}
+use mathlib.Core.Path.{ap, sym, ◌∙◌}
 use mathlib.Core.Option.{none, some}
 use lib.ListN.{length}
-use borrow.Author.Rules.{rules}
-use Rattle.device.specs.Factory.{factory_device}
 use Rattle.history.specs.declared.Found.{Found}
 use Rattle.history.specs.Encoded.{is_malformed}
 use Rattle.history.proofs.Run.{run_from, ended, spent, stopped, turned, kept-promise}

@@ -1,7 +1,6 @@
 -- `history::step_at` meets its contract: the first byte picks the definition's case.
 -- Assumes nothing.
 use Rattle.history.specs.Encoded.{step_at}
-use borrow.Author.Rules.{rules}
 use Rattle.history.proofs.step_at.Goals as goal
 
 pub returns-then-warm : goal.returns-then-warm

@@ -1,6 +1,5 @@
 -- `history::telegram_after` meets its contract: it is the answer of the device that `replay` hands back.
 -- Assumes nothing.
-use borrow.Author.Rules.{rules}
 use Rattle.history.proofs.After.{telegram-is}
 use Rattle.history.proofs.telegram_after.Goals as goal
 

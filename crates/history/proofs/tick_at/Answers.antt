@@ -2,7 +2,6 @@
 -- Assumes nothing.
 use borrow.Author.Tests.{lt-ltb, le-ltb}
 use Rattle.history.specs.Encoded.{tick_found}
-use borrow.Author.Rules.{rules}
 use Rattle.history.proofs.tick_at.Goals as goal
 
 pub returns-then-left-lt14 : goal.returns-then-left-lt14

@@ -3,7 +3,6 @@
 use mathlib.Core.Path.{◌∙◌}
 use mir.Syntax.{w64}
 use mir.ValLaws.{to_z-of_z}
-use borrow.Author.Rules.{rules}
 use Rattle.history.proofs.After.{total-is}
 use Rattle.history.proofs.total_after.Goals as goal
 

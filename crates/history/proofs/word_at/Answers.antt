@@ -1,7 +1,6 @@
 -- `history::word_at` meets its contract: each byte is what the call before it gives.
 -- Assumes nothing.
 use Rattle.history.specs.Encoded.{word_at}
-use borrow.Author.Rules.{rules}
 use Rattle.history.proofs.word_at.Goals as goal
 
 pub returns : goal.returns

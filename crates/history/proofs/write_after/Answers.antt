@@ -1,6 +1,5 @@
 -- `history::write_after` meets its contract: it is the answer of the device that `replay` hands back.
 -- Assumes nothing.
-use borrow.Author.Rules.{rules}
 use Rattle.history.proofs.After.{write-is}
 use Rattle.history.proofs.write_after.Goals as goal
 

@@ -2,7 +2,6 @@
 -- Assumes nothing.
 use borrow.Author.Tests.{lt-ltb, le-ltb}
 use Rattle.history.specs.Encoded.{write_found}
-use borrow.Author.Rules.{rules}
 use Rattle.history.proofs.write_at.Goals as goal
 
 pub returns-then-left-lt11 : goal.returns-then-left-lt11

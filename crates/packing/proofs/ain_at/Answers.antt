@@ -1,6 +1,5 @@
 -- `packing::ain_at` meets its contract: each part is what its call gives.
 use Rattle.packing.specs.Words.{ain_of}
-use borrow.Author.Rules.{rules}
 use Rattle.packing.proofs.ain_at.Goals as goal
 
 pub returns : goal.returns

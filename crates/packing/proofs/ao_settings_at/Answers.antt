@@ -1,6 +1,5 @@
 -- `packing::ao_settings_at` meets its contract: each part is what its call gives.
 use Rattle.packing.specs.Words.{ao_settings}
-use borrow.Author.Rules.{rules}
 use Rattle.packing.proofs.ao_settings_at.Goals as goal
 
 pub returns : goal.returns

@@ -1,6 +1,5 @@
 -- `packing::device_at` meets its contract: each part is what its call gives.
 use Rattle.packing.specs.Words.{device_of}
-use borrow.Author.Rules.{rules}
 use Rattle.packing.proofs.device_at.Goals as goal
 
 pub returns : goal.returns

@@ -1,6 +1,5 @@
 -- `packing::di_at` meets its contract: each part is what its call gives.
 use Rattle.packing.specs.Words.{di_of}
-use borrow.Author.Rules.{rules}
 use Rattle.packing.proofs.di_at.Goals as goal
 
 pub returns : goal.returns

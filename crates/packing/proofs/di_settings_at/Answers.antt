@@ -1,6 +1,5 @@
 -- `packing::di_settings_at` meets its contract: each part is what its call gives.
 use Rattle.packing.specs.Words.{di_settings}
-use borrow.Author.Rules.{rules}
 use Rattle.packing.proofs.di_settings_at.Goals as goal
 
 pub returns : goal.returns

@@ -1,6 +1,5 @@
 -- `packing::dout_at` meets its contract: each part is what its call gives.
 use Rattle.packing.specs.Words.{dout_of}
-use borrow.Author.Rules.{rules}
 use Rattle.packing.proofs.dout_at.Goals as goal
 
 pub returns : goal.returns

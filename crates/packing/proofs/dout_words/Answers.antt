@@ -2,7 +2,6 @@
 use native.Mathlib.Omega.{arith}
 use Rattle.packing.specs.Words.{dout_words, dout_of, dout_settings, dout_state}
 use Rattle.packing.specs.Laws.{byte-back, byte_small, flag-back, flag_small, half_back, half-small}
-use borrow.Author.Rules.{rules}
 use Rattle.packing.proofs.dout_words.Goals as goal
 
 pub overflow_cast-result-5 : goal.overflow_cast-result-5
@@ -15,7 +14,10 @@ pub returns : goal.returns
 unfolding dout_words dout_of dout_settings dout_state
 returns c =
     let b = c.args.b in
-    let g = c.struct_known-7-1.given in record { value = rw (c.flag-4.ensures, c.flag-3.ensures, c.flag-2.ensures, c.flag.ensures); small = (
+    let g = c.struct_known-7-1.given in record {
+      value = rw (c.flag-4.ensures, c.flag-3.ensures, c.flag-2.ensures, c.flag.ensures);
+      small = (
         (g.0.0.fits, (g.0.1.0.fits, (g.0.1.1.0.fits, (g.0.1.1.1.0.fits, (g.0.1.1.1.1.0.fits, (byte_small b.state.out.value g.1.0.0.0.fits, (byte_small b.state.out.status g.1.0.0.1.0.fits, (g.1.0.1.0.fits, (byte_small b.state.operator.value g.1.0.1.1.0.0.fits, (byte_small b.state.operator.status g.1.0.1.1.0.1.0.fits, (flag_small b.state.sp.some, (byte_small b.state.sp.value g.1.0.1.1.1.0.1.0.fits, (g.1.0.1.1.1.0.1.1.0.fits, (flag_small b.state.sp.ifs, (flag_small b.state.rcas_in.some, (byte_small b.state.rcas_in.value g.1.0.1.1.1.1.0.1.0.fits, (g.1.0.1.1.1.1.0.1.1.0.fits, (flag_small b.state.rcas_in.ifs, (half-small b.st_rev g.1.1.0.fits, tt))))))))))))))))))),
         rw (byte-back b.state.out.value g.1.0.0.0.fits, byte-back b.state.out.status g.1.0.0.1.0.fits, byte-back b.state.operator.value g.1.0.1.1.0.0.fits, byte-back b.state.operator.status g.1.0.1.1.0.1.0.fits, flag-back b.state.sp.some, byte-back b.state.sp.value g.1.0.1.1.1.0.1.0.fits, flag-back b.state.sp.ifs, flag-back b.state.rcas_in.some, byte-back b.state.rcas_in.value g.1.0.1.1.1.1.0.1.0.fits, flag-back b.state.rcas_in.ifs, half_back b.st_rev g.1.1.0.fits),
-      ) }
+      );
+    }

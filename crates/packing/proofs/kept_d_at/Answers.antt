@@ -1,5 +1,4 @@
 -- `packing::kept_d_at` meets its contract: each part is what its call gives.
-use borrow.Author.Rules.{rules}
 use Rattle.packing.proofs.kept_d_at.Goals as goal
 
 pub returns : goal.returns

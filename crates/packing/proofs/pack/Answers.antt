@@ -5,7 +5,6 @@ use borrow.Author.Tests.{le-leb, lt-leb}
 use lib.ListN.{length}
 use Rattle.packing.specs.Packed.{pack_answer, pack_bytes}
 use Rattle.packing.specs.Laws.{pack-steps, unpack-pack}
-use borrow.Author.Rules.{rules}
 use Rattle.packing.proofs.pack.Goals as goal
 
 pub returns-then-room-lt-PACKED : goal.returns-then-room-lt-PACKED

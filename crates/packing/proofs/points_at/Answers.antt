@@ -1,5 +1,5 @@
 -- `packing::points_at` meets its contract: the loop's invariant: the places so far stand in front of zeros; the measure is what is left of the 21.
-use Prim.Native.Nat.{ℕ, ◌-◌, ◌≤◌}
+use Prim.Native.Nat.{ℕ}
 use mathlib.Core.Path.{◌≡◌, ap, ◌∙◌}
 use mathlib.Core.List.{append-nil}
 use native.Mathlib.Omega.{arith}
@@ -7,7 +7,6 @@ use native.Mathlib.Numerals.{add-one}
 use Rattle.packing.specs.Words.{points}
 use Rattle.packing.specs.Packed.{words_in}
 use Rattle.packing.specs.Laws.{points_to, points-to-more}
-use borrow.Author.Rules.{rules}
 use Rattle.packing.proofs.points_at.Goals as goal
 
 pub loop-n-init : goal.loop-n-init

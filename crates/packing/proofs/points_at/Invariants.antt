@@ -1,12 +1,7 @@
-use Prim.Native.Nat.{ℕ, ◌-◌, ◌≤◌}
-use mathlib.Core.Path.{◌≡◌, ap, ◌∙◌}
-use mathlib.Core.List.{append-nil}
-use native.Mathlib.Omega.{arith}
-use native.Mathlib.Numerals.{add-one}
-use Rattle.packing.specs.Words.{points}
+use Prim.Native.Nat.{◌-◌, ◌≤◌}
+use mathlib.Core.Path.{◌≡◌}
 use Rattle.packing.specs.Packed.{words_in}
-use Rattle.packing.specs.Laws.{points_to, points-to-more}
-use borrow.Author.Rules.{rules}
+use Rattle.packing.specs.Laws.{points_to}
 use Rattle.packing.proofs.points_at.Given as goal
 
 abbrev pub invariant-loop-n : goal.invariant-loop-n

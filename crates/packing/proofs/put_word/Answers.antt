@@ -4,7 +4,6 @@ use native.Mathlib.Numerals.{add-one, add-two, add-three}
 use lib.ListN.{length-set}
 use lib.Seq.{sets-eq}
 use Rattle.wire.specs.Bytes.{word_bytes}
-use borrow.Author.Rules.{rules}
 use Rattle.packing.proofs.put_word.Goals as goal
 
 pub bounds-buf-at-2 : goal.bounds-buf-at-2

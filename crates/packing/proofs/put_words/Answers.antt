@@ -1,12 +1,11 @@
 -- `packing::put_words` meets its contract: the loop's invariant: the first i words are in place; the measure is what is left of them.
-use Prim.Native.Nat.{◌+◌, ◌*◌, ◌≤◌, ◌-◌}
+use Prim.Native.Nat.{◌+◌, ◌*◌}
 use mathlib.Core.Path.{◌≡◌, refl, sym, ◌∙◌}
 use native.Mathlib.Omega.{arith}
 use native.Mathlib.Numerals.{add-one}
-use lib.ListN.{length, get_or, take}
+use lib.ListN.{length, get_or}
 use lib.Seq.{take-length}
-use Rattle.wire.specs.Bytes.{replaced, word_bytes}
-use Rattle.packing.specs.Packed.{bytes_of}
+use Rattle.wire.specs.Bytes.{word_bytes}
 use Rattle.packing.specs.Laws.{put-none, put-more, replaced-length}
 use Rattle.packing.proofs.put_words.Goals as goal
 

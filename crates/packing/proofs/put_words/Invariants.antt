@@ -1,12 +1,8 @@
-use Prim.Native.Nat.{◌+◌, ◌*◌, ◌≤◌, ◌-◌}
-use mathlib.Core.Path.{◌≡◌, refl, sym, ◌∙◌}
-use native.Mathlib.Omega.{arith}
-use native.Mathlib.Numerals.{add-one}
-use lib.ListN.{length, get_or, take}
-use lib.Seq.{take-length}
-use Rattle.wire.specs.Bytes.{replaced, word_bytes}
+use Prim.Native.Nat.{◌≤◌, ◌-◌}
+use mathlib.Core.Path.{◌≡◌}
+use lib.ListN.{length, take}
+use Rattle.wire.specs.Bytes.{replaced}
 use Rattle.packing.specs.Packed.{bytes_of}
-use Rattle.packing.specs.Laws.{put-none, put-more, replaced-length}
 use Rattle.packing.proofs.put_words.Given as goal
 
 abbrev pub invariant-loop-i : goal.invariant-loop-i

@@ -1,5 +1,4 @@
 -- `packing::refused` meets its contract: each part is what its call gives.
-use borrow.Author.Rules.{rules}
 use Rattle.packing.proofs.refused.Goals as goal
 
 pub returns : goal.returns

@@ -1,6 +1,5 @@
 -- `packing::table_at` meets its contract: each part is what its call gives.
 use Rattle.packing.specs.Words.{table}
-use borrow.Author.Rules.{rules}
 use Rattle.packing.proofs.table_at.Goals as goal
 
 pub returns : goal.returns

@@ -1,7 +1,7 @@
 -- `packing::table_words` meets its contract: the loop's invariant: the count and the places so far stand in front of zeros; the measure is what is left of the 21 places. A table has 21 places, and their numbers fit: so each is read again.
-use Prim.Native.Nat.{ℕ, zero, suc, ◌+◌, ◌*◌, ◌-◌, ◌≤◌, ◌<◌}
-use mathlib.Core.Path.{◌≡◌, refl, sym, ap, ◌∙◌}
-use mathlib.Core.List.{List, [], ◌∷◌, map, append-nil}
+use Prim.Native.Nat.{ℕ, zero, suc, ◌<◌}
+use mathlib.Core.Path.{◌≡◌, refl, ap, ◌∙◌}
+use mathlib.Core.List.{List, [], ◌∷◌, append-nil}
 use native.Mathlib.Omega.{arith}
 use native.Mathlib.Numerals.{add-one}
 use lib.ListN.{length, get_or}
@@ -20,7 +20,6 @@ use Rattle.linearisation.specs.contracts.Table as T
 use Rattle.linearisation.proofs.Table.TheLaws as T'
 use Rattle.packing.specs.Words.{point_words, table_words}
 use Rattle.packing.specs.Laws.{words_to, words-to-more, Fitting, table-small, table-back}
-use borrow.Author.Rules.{rules}
 use Rattle.packing.proofs.table_words.Goals as goal
 
 -- what an array holds where nothing was written
@@ -40,6 +39,7 @@ each-fit (p ∷ ps) (u ∷ us) s = (passes (fits binary32 p.x) s.0.1.1.0.1, pass
 module _ (t : Table) (good : Is T.the_row t (LL.val T.the_type T'.the_laws t ∷ [])) where
   full : length t.points ≡ 21
   full = (LL.owed T.the_type T'.the_laws t (LL.val T.the_type T'.the_laws t ∷ []) good).1.0.1.0.1
+
   fitting : Fitting t.points
   fitting = let g = (LL.owed T.the_type T'.the_laws t (LL.val T.the_type T'.the_laws t ∷ []) good).1.0 in each-fit t.points g.0 g.1.1
 

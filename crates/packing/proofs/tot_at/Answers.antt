@@ -1,6 +1,5 @@
 -- `packing::tot_at` meets its contract: each part is what its call gives.
 use Rattle.packing.specs.Words.{tot_of}
-use borrow.Author.Rules.{rules}
 use Rattle.packing.proofs.tot_at.Goals as goal
 
 pub returns : goal.returns

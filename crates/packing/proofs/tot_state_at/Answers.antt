@@ -2,7 +2,6 @@
 use mir.Syntax.{w64}
 use mir.ValLaws.{to_z-of_z}
 use Rattle.packing.specs.Words.{tot_state}
-use borrow.Author.Rules.{rules}
 use Rattle.packing.proofs.tot_state_at.Goals as goal
 
 pub returns : goal.returns

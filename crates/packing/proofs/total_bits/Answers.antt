@@ -29,6 +29,7 @@ plain (negsuc n) f t = absurd (let e : ◌≡◌ {A = ℕ} 0 1 = cc in omega ari
 module _ (c : goal.Then-z-lt0) where
   abbrev z : ℤ
   z = c.before.args.z
+
   negative : (n : ℕ) × (2 ^ 64 - 1 - n ≡ twos z) × (to_z w64 (2 ^ 64 - 1 - of_z w64 z) ≡ pos n) × (n < 2 ^ 63)
   negative = let f = c.before.ranges.z in flipped z f (rw (to_z-of_z w64 z f) at c.if-z-lt0.true)
 

@@ -5,7 +5,6 @@ use native.Mathlib.Omega.{arith}
 use mir.Syntax.{w64}
 use mir.ValLaws.{to_z-neg}
 use borrow.Author.Tests.{ltb-false}
-use borrow.Author.Rules.{rules}
 use Rattle.packing.proofs.total_of.Goals as goal
 
 pub returns-then-plain : goal.returns-then-plain

@@ -8,7 +8,6 @@ use Rattle.packing.specs.declared.Unpacked.{Unpacked}
 use Rattle.packing.specs.Words.{device_of}
 use Rattle.packing.specs.Packed.{packed_of, words_in, accepted, unpacked_of}
 use Rattle.packing.specs.Laws.{unpack-length, unpack-yes, unpack-no, pack-exact, pack-unpack}
-use borrow.Author.Rules.{rules}
 use Rattle.packing.proofs.unpack.Goals as goal
 
 -- what the contract says of a result, from what the definition gives

@@ -2,7 +2,6 @@
 use mathlib.Core.Path.{sym}
 use native.Mathlib.Omega.{arith}
 use Rattle.packing.specs.Laws.{word_in}
-use borrow.Author.Rules.{rules}
 use Rattle.packing.proofs.word_at.Goals as goal
 
 pub returns : goal.returns

@@ -2,7 +2,6 @@
 -- Assumes nothing.
 use Rattle.parameters.specs.Words.{allows_of}
 use lib.Ieee.{of_bits, of_int}
-use borrow.Author.Rules.{rules}
 use Rattle.parameters.proofs.allows.Goals as goal
 
 pub returns-in-Nothing : goal.returns-in-Nothing

@@ -1,7 +1,6 @@
 -- `parameters::counts` meets its contract: the entry's class decides.
 -- Assumes nothing.
 use Rattle.parameters.specs.Table.{is_static}
-use borrow.Author.Rules.{rules}
 use Rattle.parameters.proofs.counts.Goals as goal
 
 pub returns-in-NoBlock : goal.returns-in-NoBlock

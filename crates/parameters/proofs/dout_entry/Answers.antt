@@ -2,7 +2,6 @@
 -- Assumes nothing.
 use borrow.Author.Tests.{ne_eqb}
 use Rattle.parameters.specs.Table.{discrete, dout, entry_in}
-use borrow.Author.Rules.{rules}
 use Rattle.parameters.proofs.dout_entry.Goals as goal
 
 pub returns-in-22 : goal.returns-in-22

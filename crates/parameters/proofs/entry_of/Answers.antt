@@ -2,7 +2,6 @@
 -- Assumes nothing.
 use borrow.Author.Tests.{ne_eqb}
 use Rattle.parameters.specs.Table.{entry_of, di}
-use borrow.Author.Rules.{rules}
 use Rattle.parameters.proofs.entry_of.Goals as goal
 
 pub returns-in-0 : goal.returns-in-0

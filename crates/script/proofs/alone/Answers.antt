@@ -1,6 +1,5 @@
 -- `script::alone` meets its contract: the test is the definition's.
 use Rattle.script.proofs.Told.{told}
-use borrow.Author.Rules.{rules}
 use Rattle.script.proofs.alone.Goals as goal
 
 pub returns-then-end : goal.returns-then-end

@@ -1,5 +1,4 @@
 -- `script::bytes_after` meets its contract: the words after the first ones are those from the place that `after` gives.
-use borrow.Author.Rules.{rules}
 use Rattle.script.proofs.bytes_after.Goals as goal
 
 pub returns : goal.returns

@@ -1,6 +1,5 @@
 -- `script::call` meets its contract: each arm is the definition's case.
 use Rattle.script.specs.Command.{call_of}
-use borrow.Author.Rules.{rules}
 use Rattle.script.proofs.call.Goals as goal
 
 pub returns-in-Factory : goal.returns-in-Factory

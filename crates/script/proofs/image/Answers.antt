@@ -1,7 +1,6 @@
 -- `script::image` meets its contract: `numbers` tells whether the words fit and gives their values, which are within their limits.
 use Rattle.script.proofs.Told.{told}
 use Rattle.script.specs.Command.{image_call}
-use borrow.Author.Rules.{rules}
 use Rattle.script.proofs.image.Goals as goal
 
 pub returns-then-good : goal.returns-then-good

@@ -1,5 +1,4 @@
 -- `script::load` meets its contract: its test is the definition's.
-use borrow.Author.Rules.{rules}
 use Rattle.script.specs.Command.{load_call}
 use Rattle.script.proofs.load.Goals as goal
 

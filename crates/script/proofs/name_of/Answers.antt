@@ -1,7 +1,6 @@
 -- `script::name_of` meets its contract: each return follows the comparisons that the definition makes, in its order.
 use Rattle.script.proofs.Told.{told}
 use Rattle.script.specs.Command.{name_of}
-use borrow.Author.Rules.{rules}
 use Rattle.script.proofs.name_of.Goals as goal
 
 pub returns-then-same : goal.returns-then-same

@@ -2,7 +2,6 @@
 use Rattle.script.proofs.Told.{told}
 use borrow.Author.Tests.{eq-eqb, ne_eqb}
 use Rattle.script.specs.Command.{command_of}
-use borrow.Author.Rules.{rules}
 use Rattle.script.proofs.parse.Goals as goal
 
 pub returns-then-long : goal.returns-then-long

@@ -6,7 +6,6 @@ use Prim.Native.Nat.{ℕ}
 use native.Mathlib.Omega.{arith}
 use lib.ListN.{drop}
 use lib.Dec.{leb}
-use borrow.Author.Rules.{rules}
 use Rattle.script.specs.Words.{words_of, first_of, rest_of, number_of, up_to}
 use Rattle.script.specs.Command.{are_bytes, telegram_call}
 use Rattle.script.specs.Laws.{value-within, both_true}

@@ -1,10 +1,7 @@
 -- `script::tick` meets its contract: `numbers` tells whether the words fit and gives their values, which are within their limits.
 use Rattle.script.proofs.Told.{told, within}
 use Rattle.script.specs.Command.{tick_limits, tick_call}
-use Prim.Native.Nat.{ℕ, ◌≤◌, ◌<◌}
 use native.Mathlib.Omega.{arith}
-use lib.ListN.{length, get_or}
-use borrow.Author.Rules.{rules}
 use Rattle.script.proofs.tick.Goals as goal
 
 pub overflow_cast-result : goal.overflow_cast-result

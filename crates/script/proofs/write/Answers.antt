@@ -1,11 +1,9 @@
 -- `script::write` meets its contract: `numbers` tells whether the words fit and gives their values, which are within their limits.
 use Rattle.script.proofs.Told.{told, within}
 use Rattle.script.specs.Command.{write_call}
-use Prim.Native.Nat.{ℕ, ◌≤◌, ◌<◌}
+use Prim.Native.Nat.{ℕ}
 use native.Mathlib.Omega.{arith}
-use lib.ListN.{length, get_or}
 use mathlib.Core.List.{List, [], ◌∷◌}
-use borrow.Author.Rules.{rules}
 use Rattle.script.proofs.write.Goals as goal
 
 abbrev limits : List ℕ

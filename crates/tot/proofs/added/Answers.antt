@@ -1,5 +1,4 @@
 -- `tot::added` is right: the flag picks the definition's case.
-use borrow.Author.Rules.{rules}
 use mathlib.Core.Path.{◌∙◌}
 use mir.Syntax.{w64}
 use mir.ValLaws.{to_z-of_z}

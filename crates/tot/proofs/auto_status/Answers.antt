@@ -1,5 +1,4 @@
 -- `tot::auto_status` is right: each arm is the definition's clause.
-use borrow.Author.Rules.{rules}
 use Rattle.tot.proofs.auto_status.Goals as goal
 
 pub returns-in-Bad : goal.returns-in-Bad

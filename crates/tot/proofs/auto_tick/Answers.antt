@@ -1,5 +1,4 @@
 -- `tot::auto_tick` is right: each part of the next state is what one call gives, and the numbers are read back as they are.
-use borrow.Author.Rules.{rules}
 use mir.Syntax.{w64}
 use mir.ValLaws.{to_z-of_z}
 use Rattle.tot.specs.Tick.{auto_tick, auto_total, tick_adds, tick_rate, tick_status, input_of}

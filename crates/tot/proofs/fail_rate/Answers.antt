@@ -1,5 +1,4 @@
 -- `tot::fail_rate` is right: the tests that led to each `return` pick the definition's case.
-use borrow.Author.Rules.{rules}
 use Rattle.tot.specs.Tick.{fail_rate}
 use Rattle.tot.proofs.fail_rate.Goals as goal
 

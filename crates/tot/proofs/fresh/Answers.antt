@@ -1,5 +1,4 @@
 -- `tot::fresh` is right: the record is the definition's.
-use borrow.Author.Rules.{rules}
 use Rattle.tot.proofs.fresh.Goals as goal
 
 pub returns : goal.returns

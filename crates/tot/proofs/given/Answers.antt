@@ -1,5 +1,4 @@
 -- `tot::given` is right: the constant is the factor that the definition names.
-use borrow.Author.Rules.{rules}
 use lib.Ieee.{of_bits, of_int}
 use mir.Syntax.{w64}
 use mir.ValLaws.{to_z-of_z}

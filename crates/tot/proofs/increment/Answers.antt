@@ -1,5 +1,4 @@
 -- `tot::increment` is right: the constants are the factor and the limit that the definition names.
-use borrow.Author.Rules.{rules}
 use mathlib.Core.Path.{◌∙◌}
 use lib.Ieee.{of_bits, of_int}
 use mir.Syntax.{w64}

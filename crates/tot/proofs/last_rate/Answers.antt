@@ -1,5 +1,4 @@
 -- `tot::last_rate` is right: each arm is the definition's clause.
-use borrow.Author.Rules.{rules}
 use Rattle.tot.proofs.last_rate.Goals as goal
 
 pub returns-in-Usable : goal.returns-in-Usable

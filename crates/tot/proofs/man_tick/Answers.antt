@@ -1,5 +1,4 @@
 -- `tot::man_tick` is right: the total is read back as it is, and the value is worked out from it.
-use borrow.Author.Rules.{rules}
 use mir.Syntax.{w64}
 use mir.ValLaws.{to_z-of_z}
 use Rattle.tot.specs.Tick.{man_tick}

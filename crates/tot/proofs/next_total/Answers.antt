@@ -1,5 +1,4 @@
 -- `tot::next_total` is right: the tests pick the definition's case; the sum, its limit and the preset are the callees'.
-use borrow.Author.Rules.{rules}
 use mathlib.Core.Path.{◌∙◌}
 use mir.Syntax.{w64}
 use mir.ValLaws.{to_z-of_z}

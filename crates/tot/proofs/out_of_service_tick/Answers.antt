@@ -1,5 +1,4 @@
 -- `tot::out_of_service_tick` is right: the total is read back as it is.
-use borrow.Author.Rules.{rules}
 use mir.Syntax.{w64}
 use mir.ValLaws.{to_z-of_z}
 use Rattle.tot.specs.Tick.{out_of_service_tick}

@@ -1,5 +1,4 @@
 -- `tot::thousandths` is right: the constant is the factor that the definition names, and the cut is the callee's.
-use borrow.Author.Rules.{rules}
 use mathlib.Core.Path.{◌∙◌}
 use lib.Ieee.{of_bits, of_int}
 use mir.Syntax.{w64}

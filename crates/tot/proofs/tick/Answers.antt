@@ -1,5 +1,4 @@
 -- `tot::tick` is right: the actual mode picks the case.
-use borrow.Author.Rules.{rules}
 use Rattle.tot.specs.Tick.{tick_of}
 use Rattle.tot.proofs.tick.Goals as goal
 

@@ -1,5 +1,4 @@
 -- `tot::warm_start` is right: the total is read back as it is, and what is forgotten is as in the fresh state.
-use borrow.Author.Rules.{rules}
 use mir.Syntax.{w64}
 use mir.ValLaws.{to_z-of_z}
 use Rattle.tot.proofs.warm_start.Goals as goal

@@ -1,5 +1,4 @@
 -- `tot::written` is right: the total is what the value in thousandths gives.
-use borrow.Author.Rules.{rules}
 use mir.Syntax.{w64}
 use mir.ValLaws.{to_z-of_z}
 use Rattle.tot.proofs.written.Goals as goal

@@ -2,7 +2,6 @@
 use mir.Syntax.{w64}
 use mir.ValLaws.{to_z-of_z}
 use Rattle.script.specs.Answer.{place_after_all, all_put}
-use borrow.Author.Rules.{rules}
 use Rattle.script.proofs.answers.put_answer.Goals as goal
 
 pub returns-in-Nothing : goal.returns-in-Nothing

@@ -4,7 +4,6 @@ use mathlib.Core.List.{[], ◌∷◌}
 use Rattle.text.specs.Place.{place_after, bytes_put}
 use Rattle.script.specs.Answer.{place_after_all, all_put, row_parts}
 use Rattle.script.specs.Laws.{put-append, place-append}
-use borrow.Author.Rules.{rules}
 use Rattle.script.proofs.answers.put_bytes.Goals as goal
 
 pub returns : goal.returns

@@ -1,6 +1,5 @@
 -- `script::answers::put_order` meets its contract: each arm puts the parts of its case.
 use Rattle.script.specs.Answer.{place_after_all, all_put}
-use borrow.Author.Rules.{rules}
 use Rattle.script.proofs.answers.put_order.Goals as goal
 
 pub returns-in-Position : goal.returns-in-Position

@@ -4,7 +4,6 @@ use Prim.Native.Nat.{ℕ}
 use mathlib.Core.List.{List, [], ◌∷◌, ◌++◌}
 use Rattle.script.specs.Answer.{place_after_all, all_put, order_parts}
 use Rattle.script.specs.Laws.{put-append, place-append}
-use borrow.Author.Rules.{rules}
 use Rattle.script.proofs.answers.put_orders.Goals as goal
 
 pub returns : goal.returns

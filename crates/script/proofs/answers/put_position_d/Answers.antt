@@ -1,6 +1,5 @@
 -- `script::answers::put_position_d` meets its contract: the parts are put one after another, as the definition has it.
 use Rattle.script.specs.Answer.{place_after_all, all_put}
-use borrow.Author.Rules.{rules}
 use Rattle.script.proofs.answers.put_position_d.Goals as goal
 
 pub returns : goal.returns

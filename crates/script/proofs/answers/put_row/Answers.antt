@@ -1,10 +1,10 @@
 -- `script::answers::put_row` meets its contract, with this loop invariant: what is left of the row, put from `next` on, gives what the whole row gives; the measure is the rest of it.
-use Prim.Native.Nat.{◌≤◌, ◌<◌, ◌-◌}
-use mathlib.Core.Path.{◌≡◌, refl}
+use Prim.Native.Nat.{◌<◌}
+use mathlib.Core.Path.{refl}
 use native.Mathlib.Omega.{arith}
 use borrow.Author.Rules.{rules}
-use lib.ListN.{length, drop}
-use Rattle.script.specs.Answer.{place_after_all, all_put, row_parts}
+use lib.ListN.{length}
+use Rattle.script.specs.Answer.{place_after_all, all_put}
 use Rattle.script.specs.Laws.{row_at, row-ended}
 use Rattle.script.proofs.answers.put_row.Goals as goal
 

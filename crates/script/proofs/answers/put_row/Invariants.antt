@@ -1,10 +1,7 @@
-use Prim.Native.Nat.{◌≤◌, ◌<◌, ◌-◌}
-use mathlib.Core.Path.{◌≡◌, refl}
-use native.Mathlib.Omega.{arith}
-use borrow.Author.Rules.{rules}
+use Prim.Native.Nat.{◌≤◌, ◌-◌}
+use mathlib.Core.Path.{◌≡◌}
 use lib.ListN.{length, drop}
 use Rattle.script.specs.Answer.{place_after_all, all_put, row_parts}
-use Rattle.script.specs.Laws.{row_at, row-ended}
 use Rattle.script.proofs.answers.put_row.Given as goal
 
 abbrev pub invariant-loop-i : goal.invariant-loop-i

@@ -1,8 +1,6 @@
 -- `script::words::after` meets its contract, with this loop invariant: the words from `next` on are those after the first `i`; the measure is the rest of the count.
-use Prim.Native.Nat.{◌-◌, ◌≤◌}
-use mathlib.Core.Path.{◌≡◌, refl, ◌∙◌}
+use mathlib.Core.Path.{◌≡◌, refl}
 use native.Mathlib.Omega.{arith}
-use lib.ListN.{length, drop}
 use Rattle.script.specs.Words.{words_of}
 use Rattle.script.specs.Laws.{rest-dropped}
 use Rattle.script.proofs.words.after.Goals as goal

@@ -1,9 +1,7 @@
 use Prim.Native.Nat.{◌-◌, ◌≤◌}
-use mathlib.Core.Path.{◌≡◌, refl, ◌∙◌}
-use native.Mathlib.Omega.{arith}
+use mathlib.Core.Path.{◌≡◌}
 use lib.ListN.{length, drop}
 use Rattle.script.specs.Words.{words_of}
-use Rattle.script.specs.Laws.{rest-dropped}
 use Rattle.script.proofs.words.after.Given as goal
 
 abbrev pub invariant-loop-i : goal.invariant-loop-i

@@ -1,11 +1,9 @@
 -- `script::words::are_bytes` meets its contract, with this loop invariant: the words to come fit if all do; the measure is the rest of the count.
-use Prim.Native.Nat.{ℕ, suc, ◌+◌, ◌-◌, ◌≤◌}
-use mathlib.Core.Path.{◌≡◌, refl}
-use mathlib.Core.Bool.{◌&&◌, and_assoc}
+use Prim.Native.Nat.{suc, ◌+◌, ◌-◌}
+use mathlib.Core.Path.{◌≡◌}
+use mathlib.Core.Bool.{and_assoc}
 use native.Mathlib.Omega.{arith}
-use borrow.Author.Rules.{rules}
-use lib.ListN.{length, drop, replicate}
-use Rattle.script.specs.Words.{words_of, fitting}
+use Rattle.script.specs.Words.{fitting}
 use Rattle.script.proofs.words.are_bytes.Goals as goal
 
 pub loop-i-init : goal.loop-i-init

@@ -1,11 +1,9 @@
 -- `script::words::bytes` meets its contract, with this loop invariant: the bytes stored with those to come are all; the measure is the rest of the buffer.
-use Prim.Native.Nat.{◌-◌, ◌≤◌}
+use Prim.Native.Nat.{◌-◌}
 use mathlib.Core.Path.{◌≡◌, refl, ◌∙◌}
-use mathlib.Core.List.{◌++◌}
 use native.Mathlib.Omega.{arith}
-use borrow.Author.Rules.{rules}
-use lib.ListN.{length, take, drop, length-set}
-use Rattle.script.specs.Words.{words_of, word_byte, bytes_of}
+use lib.ListN.{length, drop, length-set}
+use Rattle.script.specs.Words.{words_of, word_byte}
 use Rattle.script.specs.Laws.{filled_more, filled-all}
 use Rattle.script.proofs.words.bytes.Goals as goal
 

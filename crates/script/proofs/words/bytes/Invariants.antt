@@ -1,11 +1,8 @@
 use Prim.Native.Nat.{◌-◌, ◌≤◌}
-use mathlib.Core.Path.{◌≡◌, refl, ◌∙◌}
+use mathlib.Core.Path.{◌≡◌}
 use mathlib.Core.List.{◌++◌}
-use native.Mathlib.Omega.{arith}
-use borrow.Author.Rules.{rules}
-use lib.ListN.{length, take, drop, length-set}
-use Rattle.script.specs.Words.{words_of, word_byte, bytes_of}
-use Rattle.script.specs.Laws.{filled_more, filled-all}
+use lib.ListN.{length, take, drop}
+use Rattle.script.specs.Words.{words_of, bytes_of}
 use Rattle.script.proofs.words.bytes.Given as goal
 
 abbrev pub invariant-loop-i : goal.invariant-loop-i

@@ -1,12 +1,8 @@
 -- `script::words::count` meets its contract, with this loop invariant: the words counted and those from `next` on, where a word or the line's end stands, make all; the measure is the rest of the line.
-use Prim.Native.Nat.{◌+◌, ◌-◌, ◌≤◌, ◌<◌}
-use mathlib.Core.Path.{◌≡◌, ap}
-use mathlib.Core.Bool.{false}
+use Prim.Native.Nat.{◌<◌}
+use mathlib.Core.Path.{ap}
 use native.Mathlib.Omega.{arith}
-use borrow.Author.Rules.{rules}
-use lib.ListN.{length, drop, get_or}
-use lib.Dec.{eqb}
-use Rattle.script.specs.Words.{words_of}
+use lib.ListN.{length}
 use Rattle.script.specs.Laws.{no_words, word-ends-past, word-counted}
 use Rattle.script.proofs.words.count.Goals as goal
 

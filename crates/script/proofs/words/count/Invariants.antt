@@ -1,12 +1,9 @@
 use Prim.Native.Nat.{◌+◌, ◌-◌, ◌≤◌, ◌<◌}
-use mathlib.Core.Path.{◌≡◌, ap}
+use mathlib.Core.Path.{◌≡◌}
 use mathlib.Core.Bool.{false}
-use native.Mathlib.Omega.{arith}
-use borrow.Author.Rules.{rules}
 use lib.ListN.{length, drop, get_or}
 use lib.Dec.{eqb}
 use Rattle.script.specs.Words.{words_of}
-use Rattle.script.specs.Laws.{no_words, word-ends-past, word-counted}
 use Rattle.script.proofs.words.count.Given as goal
 
 abbrev pub invariant-loop-next : goal.invariant-loop-next

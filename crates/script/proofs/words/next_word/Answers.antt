@@ -1,6 +1,5 @@
 -- `script::words::next_word` meets its contract: a word stands from where the spaces before it end to the next space or the line's end.
 use Rattle.script.specs.Laws.{next_word}
-use borrow.Author.Rules.{rules}
 use Rattle.script.proofs.words.next_word.Goals as goal
 
 pub returns : goal.returns

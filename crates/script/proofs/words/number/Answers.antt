@@ -4,7 +4,6 @@ use borrow.Author.Tests.{le-leb}
 use lib.ListN.{length}
 use Rattle.text.specs.Number.{number_in}
 use Rattle.script.specs.Words.{number_of}
-use borrow.Author.Rules.{rules}
 use Rattle.script.proofs.words.number.Goals as goal
 
 pub returns : goal.returns

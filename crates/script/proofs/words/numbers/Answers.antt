@@ -1,12 +1,11 @@
 -- `script::words::numbers` meets its contract, with this loop invariant: the limits and words to come fit if all do, and the values stored with those to come are all; the measure is the rest of the limits.
-use Prim.Native.Nat.{◌-◌, ◌≤◌, ◌<◌}
+use Prim.Native.Nat.{◌-◌, ◌<◌}
 use mathlib.Core.Path.{◌≡◌, refl, ◌∙◌}
-use mathlib.Core.Bool.{◌&&◌, and_assoc}
-use mathlib.Core.List.{◌++◌}
+use mathlib.Core.Bool.{and_assoc}
 use native.Mathlib.Omega.{arith}
 use borrow.Author.Rules.{rules, scaled_Fits}
-use lib.ListN.{length, take, drop, length-set}
-use Rattle.script.specs.Words.{words_of, fitting, word_value, values_of}
+use lib.ListN.{length, drop, length-set}
+use Rattle.script.specs.Words.{words_of, word_value}
 use Rattle.script.specs.Laws.{fitting-at, fitting-ended, filled_more, filled-all}
 use Rattle.script.proofs.words.numbers.Goals as goal
 

@@ -1,12 +1,9 @@
-use Prim.Native.Nat.{◌-◌, ◌≤◌, ◌<◌}
-use mathlib.Core.Path.{◌≡◌, refl, ◌∙◌}
-use mathlib.Core.Bool.{◌&&◌, and_assoc}
+use Prim.Native.Nat.{◌-◌, ◌≤◌}
+use mathlib.Core.Path.{◌≡◌}
+use mathlib.Core.Bool.{◌&&◌}
 use mathlib.Core.List.{◌++◌}
-use native.Mathlib.Omega.{arith}
-use borrow.Author.Rules.{rules, scaled_Fits}
-use lib.ListN.{length, take, drop, length-set}
-use Rattle.script.specs.Words.{words_of, fitting, word_value, values_of}
-use Rattle.script.specs.Laws.{fitting-at, fitting-ended, filled_more, filled-all}
+use lib.ListN.{length, take, drop}
+use Rattle.script.specs.Words.{words_of, fitting, values_of}
 use Rattle.script.proofs.words.numbers.Given as goal
 
 abbrev pub invariant-loop-i : goal.invariant-loop-i

@@ -1,10 +1,7 @@
 -- `script::words::same` meets its contract, with this loop invariant: the strings are the same if what follows `i` is; the measure is the rest of the first.
-use Prim.Native.Nat.{◌≤◌, ◌-◌}
-use mathlib.Core.Path.{◌≡◌, refl, sym, ◌∙◌}
+use mathlib.Core.Path.{refl, sym, ◌∙◌}
 use native.Mathlib.Omega.{arith}
 use borrow.Author.Tests.{eq-eqb, ne_eqb}
-use lib.ListN.{length, drop}
-use Rattle.script.specs.Words.{same_bytes}
 use Rattle.script.specs.Laws.{same_at, other_length, both-ended}
 use Rattle.script.proofs.words.same.Goals as goal
 

@@ -1,10 +1,7 @@
 -- `script::words::spaces_end` meets its contract, with this loop invariant: the words from `i` on are those from `at` on; the measure is the rest of the line.
-use Prim.Native.Nat.{◌≤◌, ◌-◌}
-use mathlib.Core.Path.{◌≡◌, refl, ◌∙◌}
+use mathlib.Core.Path.{refl, ◌∙◌}
 use native.Mathlib.Omega.{arith}
 use borrow.Author.Tests.{ne_eqb}
-use lib.ListN.{length, drop}
-use Rattle.script.specs.Words.{words_of}
 use Rattle.script.specs.Laws.{space-passed}
 use Rattle.script.proofs.words.spaces_end.Goals as goal
 

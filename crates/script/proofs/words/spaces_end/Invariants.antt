@@ -1,10 +1,7 @@
 use Prim.Native.Nat.{◌≤◌, ◌-◌}
-use mathlib.Core.Path.{◌≡◌, refl, ◌∙◌}
-use native.Mathlib.Omega.{arith}
-use borrow.Author.Tests.{ne_eqb}
+use mathlib.Core.Path.{◌≡◌}
 use lib.ListN.{length, drop}
 use Rattle.script.specs.Words.{words_of}
-use Rattle.script.specs.Laws.{space-passed}
 use Rattle.script.proofs.words.spaces_end.Given as goal
 
 abbrev pub invariant-loop-i : goal.invariant-loop-i

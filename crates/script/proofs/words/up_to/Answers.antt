@@ -1,5 +1,4 @@
 -- `script::words::up_to` meets its contract: each arm gives the definition's case.
-use borrow.Author.Rules.{rules}
 use Rattle.script.proofs.words.up_to.Goals as goal
 
 pub returns-in-Value : goal.returns-in-Value

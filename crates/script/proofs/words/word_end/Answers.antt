@@ -1,10 +1,10 @@
 -- `script::words::word_end` meets its contract, with this loop invariant: with the bytes since `from` read, the words of what follows are those from `from` on; the measure is the rest of the line.
-use Prim.Native.Nat.{◌≤◌, ◌<◌, ◌-◌}
-use mathlib.Core.Path.{◌≡◌, sym, ◌∙◌}
+use Prim.Native.Nat.{◌<◌}
+use mathlib.Core.Path.{sym, ◌∙◌}
 use native.Mathlib.Omega.{arith}
 use borrow.Author.Tests.{eq-eqb}
-use lib.ListN.{length, drop}
-use Rattle.script.specs.Words.{words_after, words_of, between}
+use lib.ListN.{length}
+use Rattle.script.specs.Words.{words_of, between}
 use Rattle.script.specs.Laws.{byte-read, one_more, ends-at-space, ends-with-line, nothing-between}
 use Rattle.script.proofs.words.word_end.Goals as goal
 

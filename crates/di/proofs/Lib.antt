@@ -1,0 +1,2 @@
+-- What holds of DI's definitions beyond its contracts.
+pub mod Stays
