@@ -87,32 +87,30 @@ fn points(rt: &impl Print) -> io::Result<()> {
     println!(rt; "points")?;
     let mut st = tot::fresh();
     let mut s = settings(rt, 0x08, 0, 0, 0, 0x00000000)?;
-    st = step(rt, s, st, false, 0x3c800000, 0x80)?; // 0.015625
-    st = step(rt, s, st, false, 0xbc800000, 0x80)?; // -0.015625
-    st = step(rt, s, st, false, 0xbc800000, 0x80)?; // -0.015625
+    for (bits, status) in [
+        (0x3c800000, 0x80), // 0.015625
+        (0xbc800000, 0x80), // -0.015625
+        (0xbc800000, 0x80), // -0.015625
+    ] {
+        st = step(rt, s, st, false, bits, status)?;
+    }
     st = at(16777216);
     st = step(rt, s, st, false, 0x3c800000, 0x80)?; // 0.015625
     s = settings(rt, 0x10, 0, 0, 0, 0x00000000)?;
-    st = at(16777219);
-    st = step(rt, s, st, false, 0x00000000, 0x00)?; // 0
-    st = at(16777251);
-    st = step(rt, s, st, false, 0x00000000, 0x00)?; // 0
-    st = at(-16777219);
-    st = step(rt, s, st, false, 0x00000000, 0x00)?; // 0
-    st = at(33554435);
-    st = step(rt, s, st, false, 0x00000000, 0x00)?; // 0
-    st = at(-33554437);
-    st = step(rt, s, st, false, 0x00000000, 0x00)?; // 0
-    st = at(1);
-    st = step(rt, s, st, false, 0x00000000, 0x00)?; // 0
-    st = at(-1);
-    st = step(rt, s, st, false, 0x00000000, 0x00)?; // 0
-    st = at(0);
-    st = step(rt, s, st, false, 0x00000000, 0x00)?; // 0
-    st = at(1000000000000);
-    st = step(rt, s, st, false, 0x00000000, 0x00)?; // 0
-    st = at(-1000000000000);
-    st = step(rt, s, st, false, 0x00000000, 0x00)?; // 0
+    for total in [
+        16777219,
+        16777251,
+        -16777219,
+        33554435,
+        -33554437,
+        1,
+        -1,
+        0,
+        1000000000000,
+        -1000000000000,
+    ] {
+        st = step(rt, s, at(total), false, 0x00000000, 0x00)?; // 0
+    }
     Ok(())
 }
 
@@ -121,16 +119,20 @@ fn increments(rt: &impl Print) -> io::Result<()> {
     println!(rt; "increments")?;
     let mut st = tot::fresh();
     let mut s = settings(rt, 0x08, 0, 0, 0, 0x00000000)?;
-    st = step(rt, s, st, false, 0x3e947ae1, 0x80)?; // 0.289999992
-    st = step(rt, s, st, false, 0xbe947ae1, 0x80)?; // -0.289999992
-    st = step(rt, s, st, false, 0x3ca30553, 0x80)?; // 0.0198999997
-    st = step(rt, s, st, false, 0xbca30553, 0x80)?; // -0.0198999997
-    st = step(rt, s, st, false, 0x3ba3d70a, 0x80)?; // 0.00499999989
-    st = step(rt, s, st, false, 0xbba3d70a, 0x80)?; // -0.00499999989
-    st = step(rt, s, st, false, 0x80000000, 0x80)?; // -0
-    st = step(rt, s, st, false, 0x00000001, 0x80)?; // 1.40129846e-45
-    st = step(rt, s, st, false, 0x3fa00000, 0x80)?; // 1.25
-    st = step(rt, s, st, false, 0xbfa00000, 0x80)?; // -1.25
+    for (bits, status) in [
+        (0x3e947ae1, 0x80), // 0.289999992
+        (0xbe947ae1, 0x80), // -0.289999992
+        (0x3ca30553, 0x80), // 0.0198999997
+        (0xbca30553, 0x80), // -0.0198999997
+        (0x3ba3d70a, 0x80), // 0.00499999989
+        (0xbba3d70a, 0x80), // -0.00499999989
+        (0x80000000, 0x80), // -0
+        (0x00000001, 0x80), // 1.40129846e-45
+        (0x3fa00000, 0x80), // 1.25
+        (0xbfa00000, 0x80), // -1.25
+    ] {
+        st = step(rt, s, st, false, bits, status)?;
+    }
     Ok(())
 }
 
@@ -139,21 +141,33 @@ fn limits(rt: &impl Print) -> io::Result<()> {
     println!(rt; "limits")?;
     let mut st = tot::fresh();
     let mut s = settings(rt, 0x08, 0, 0, 0, 0x00000000)?;
-    st = step(rt, s, st, false, 0x4b189680, 0x80)?; // 10000000
-    st = step(rt, s, st, false, 0x4b18967f, 0x80)?; // 9999999
-    st = step(rt, s, st, false, 0x4b989680, 0x80)?; // 20000000
-    st = step(rt, s, st, false, 0xcb989680, 0x80)?; // -20000000
-    st = step(rt, s, st, false, 0x7f7fffff, 0x80)?; // 3.40282347e+38
-    st = step(rt, s, st, false, 0xff7fffff, 0x80)?; // -3.40282347e+38
-    st = step(rt, s, st, false, 0xcb189680, 0x80)?; // -10000000
+    for (bits, status) in [
+        (0x4b189680, 0x80), // 10000000
+        (0x4b18967f, 0x80), // 9999999
+        (0x4b989680, 0x80), // 20000000
+        (0xcb989680, 0x80), // -20000000
+        (0x7f7fffff, 0x80), // 3.40282347e+38
+        (0xff7fffff, 0x80), // -3.40282347e+38
+        (0xcb189680, 0x80), // -10000000
+    ] {
+        st = step(rt, s, st, false, bits, status)?;
+    }
     st = at(999999999900);
-    st = step(rt, s, st, false, 0x3f800000, 0x80)?; // 1
-    st = step(rt, s, st, false, 0x3c23d70a, 0x80)?; // 0.00999999978
-    st = step(rt, s, st, false, 0xbca3d70a, 0x80)?; // -0.0199999996
+    for (bits, status) in [
+        (0x3f800000, 0x80), // 1
+        (0x3c23d70a, 0x80), // 0.00999999978
+        (0xbca3d70a, 0x80), // -0.0199999996
+    ] {
+        st = step(rt, s, st, false, bits, status)?;
+    }
     st = at(-999999999900);
-    st = step(rt, s, st, false, 0xbf800000, 0x80)?; // -1
-    st = step(rt, s, st, false, 0xcb189680, 0x80)?; // -10000000
-    st = step(rt, s, st, false, 0x3f000000, 0x80)?; // 0.5
+    for (bits, status) in [
+        (0xbf800000, 0x80), // -1
+        (0xcb189680, 0x80), // -10000000
+        (0x3f000000, 0x80), // 0.5
+    ] {
+        st = step(rt, s, st, false, bits, status)?;
+    }
     st = at(i64::MAX);
     st = step(rt, s, st, false, 0x3f800000, 0x80)?; // 1
     st = at(i64::MIN);
@@ -188,17 +202,21 @@ fn failures_run(rt: &impl Print) -> io::Result<()> {
     println!(rt; "failures run")?;
     let mut st = tot::fresh();
     let mut s = settings(rt, 0x08, 0, 0, 0, 0x00000000)?;
-    st = step(rt, s, st, false, 0x3f800000, 0x0d)?; // 1
-    st = step(rt, s, st, false, 0x3f800000, 0xc3)?; // 1
-    st = step(rt, s, st, false, 0xbf800000, 0xff)?; // -1
-    st = step(rt, s, st, false, 0x7fc00000, 0x80)?; // NaN
-    st = step(rt, s, st, false, 0x7f800000, 0x83)?; // inf
-    st = step(rt, s, st, false, 0xff800000, 0x80)?; // -inf
-    st = step(rt, s, st, false, 0x7fc00000, 0x0d)?; // NaN
-    st = step(rt, s, st, false, 0x7f800000, 0xe0)?; // inf
-    st = step(rt, s, st, false, 0x3f800000, 0x40)?; // 1
-    st = step(rt, s, st, false, 0x7f7fffff, 0x00)?; // 3.40282347e+38
-    st = step(rt, s, st, false, 0xffffffff, 0x80)?; // NaN
+    for (bits, status) in [
+        (0x3f800000, 0x0d), // 1
+        (0x3f800000, 0xc3), // 1
+        (0xbf800000, 0xff), // -1
+        (0x7fc00000, 0x80), // NaN
+        (0x7f800000, 0x83), // inf
+        (0xff800000, 0x80), // -inf
+        (0x7fc00000, 0x0d), // NaN
+        (0x7f800000, 0xe0), // inf
+        (0x3f800000, 0x40), // 1
+        (0x7f7fffff, 0x00), // 3.40282347e+38
+        (0xffffffff, 0x80), // NaN
+    ] {
+        st = step(rt, s, st, false, bits, status)?;
+    }
     Ok(())
 }
 
@@ -207,12 +225,16 @@ fn failures_hold(rt: &impl Print) -> io::Result<()> {
     println!(rt; "failures hold")?;
     let mut st = at(500);
     let mut s = settings(rt, 0x08, 0, 0, 1, 0x00000000)?;
-    st = step(rt, s, st, false, 0x3f800000, 0x0d)?; // 1
-    st = step(rt, s, st, false, 0x3f800000, 0xc3)?; // 1
-    st = step(rt, s, st, false, 0x7fc00000, 0x80)?; // NaN
-    st = step(rt, s, st, false, 0x7f800000, 0x80)?; // inf
-    st = step(rt, s, st, false, 0x3f800000, 0x80)?; // 1
-    st = step(rt, s, st, false, 0x3f800000, 0x00)?; // 1
+    for (bits, status) in [
+        (0x3f800000, 0x0d), // 1
+        (0x3f800000, 0xc3), // 1
+        (0x7fc00000, 0x80), // NaN
+        (0x7f800000, 0x80), // inf
+        (0x3f800000, 0x80), // 1
+        (0x3f800000, 0x00), // 1
+    ] {
+        st = step(rt, s, st, false, bits, status)?;
+    }
     Ok(())
 }
 
@@ -221,11 +243,15 @@ fn memory(rt: &impl Print) -> io::Result<()> {
     println!(rt; "memory")?;
     let mut st = tot::fresh();
     let mut s = settings(rt, 0x08, 0, 0, 2, 0x00000000)?;
-    st = step(rt, s, st, false, 0x40a00000, 0x00)?; // 5
-    st = step(rt, s, st, false, 0x7fc00000, 0x80)?; // NaN
-    st = step(rt, s, st, false, 0x40000000, 0x80)?; // 2
-    st = step(rt, s, st, false, 0x40e00000, 0x0c)?; // 7
-    st = step(rt, s, st, false, 0x7fc00000, 0x80)?; // NaN
+    for (bits, status) in [
+        (0x40a00000, 0x00), // 5
+        (0x7fc00000, 0x80), // NaN
+        (0x40000000, 0x80), // 2
+        (0x40e00000, 0x0c), // 7
+        (0x7fc00000, 0x80), // NaN
+    ] {
+        st = step(rt, s, st, false, bits, status)?;
+    }
     s = settings(rt, 0x08, 0, 1, 2, 0x00000000)?;
     st = step(rt, s, st, false, 0xc0000000, 0x80)?; // -2
     st = step(rt, s, st, false, 0x40e00000, 0xc0)?; // 7
@@ -261,9 +287,13 @@ fn reset_and_preset(rt: &impl Print) -> io::Result<()> {
     st = step(rt, s, st, false, 0x3f800000, 0x0d)?; // 1
     st = step(rt, s, st, false, 0x7fc00000, 0x80)?; // NaN
     s = settings(rt, 0x08, 2, 0, 2, 0x3e947ae1)?;
-    st = step(rt, s, st, false, 0x3f800000, 0x80)?; // 1
-    st = step(rt, s, st, false, 0x3f800000, 0xc0)?; // 1
-    st = step(rt, s, st, false, 0x7f800000, 0x80)?; // inf
+    for (bits, status) in [
+        (0x3f800000, 0x80), // 1
+        (0x3f800000, 0xc0), // 1
+        (0x7f800000, 0x80), // inf
+    ] {
+        st = step(rt, s, st, false, bits, status)?;
+    }
     s = settings(rt, 0x08, 2, 3, 0, 0x4e6e6b28)?;
     st = step(rt, s, st, false, 0x3f800000, 0x80)?; // 1
     s = settings(rt, 0x08, 2, 0, 0, 0xce6e6b28)?;
