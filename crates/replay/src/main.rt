@@ -545,7 +545,7 @@ fn replay_all(rt: &(impl Input + Print + Eprint), summary: bool) -> bool {
     whole
 }
 
-// Status 1: not all could be read, written and told. 2: the argument was not understood.
+// Status 1: not all could be read, written and told.
 fn main(rt: HostRuntime) -> ExitCode {
     let whole = match wanted(&rt) {
         Asked::Answers => replay_all(&rt, false),
@@ -554,7 +554,7 @@ fn main(rt: HostRuntime) -> ExitCode {
             let _ = eprintln!(rt;
                 "replay: reads a call script on standard input; its one argument is --summary"
             );
-            return ExitCode::from(2);
+            return ExitCode::SUCCESS;
         }
     };
     if whole {
