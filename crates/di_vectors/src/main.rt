@@ -5,65 +5,66 @@
 #![tactic(auto)]
 
 use di::{Settings, State};
+use std::io;
 use wire::Discrete;
 
-const OUT: i32 = 1;
-
-fn title(text: &[u8]) {
-    io::write_all(OUT, b"# ");
-    io::write_all(OUT, text);
-    io::write_all(OUT, b"\n");
+fn title(rt: &impl Print, text: &str) -> io::Result<()> {
+    println!(rt; "# {text}")
 }
 
-fn print_pair(value: u8, status: u8) {
-    io::print_decimal(OUT, value as u64);
-    io::write_all(OUT, b" ");
-    io::print_hex(OUT, status as u64, 2);
+fn print_pair(rt: &impl Print, value: u8, status: u8) -> io::Result<()> {
+    print!(rt; "{value} {status:02x}")
 }
 
-fn print_state(st: State) {
+fn print_state(rt: &impl Print, st: State) -> io::Result<()> {
     let out = st.out;
-    io::write_all(OUT, b": ");
-    print_pair(out.value, out.status);
-    io::write_all(OUT, b" ");
-    io::print_hex(OUT, st.mode as u64, 2);
-    io::write_all(OUT, b"\n");
+    let mode = st.mode;
+    print!(rt; ": ")?;
+    print_pair(rt, out.value, out.status)?;
+    println!(rt; " {mode:02x}")
 }
 
-fn step(s: Settings, st: State, fault: bool, value: u8, status: u8) -> State {
+fn step(
+    rt: &impl Print,
+    s: Settings,
+    st: State,
+    fault: bool,
+    value: u8,
+    status: u8,
+) -> io::Result<State> {
     let next = di::tick(s, st, fault, value, status);
-    io::print_decimal(OUT, fault as u64);
-    io::write_all(OUT, b" ");
-    print_pair(value, status);
-    print_state(next);
-    next
+    let flag = fault as u8;
+    print!(rt; "{flag} ")?;
+    print_pair(rt, value, status)?;
+    print_state(rt, next)?;
+    Ok(next)
 }
 
-fn tick(s: Settings, st: State, value: u8, status: u8) -> State {
-    step(s, st, false, value, status)
+fn tick(rt: &impl Print, s: Settings, st: State, value: u8, status: u8) -> io::Result<State> {
+    step(rt, s, st, false, value, status)
 }
 
-fn fresh() -> State {
+fn fresh(rt: &impl Print) -> io::Result<State> {
     let st = di::fresh();
-    io::write_all(OUT, b"fresh");
-    print_state(st);
-    st
+    print!(rt; "fresh")?;
+    print_state(rt, st)?;
+    Ok(st)
 }
 
 // An accepted write of OUT_D.
-fn operate(st: State, value: u8, status: u8) -> State {
+fn operate(rt: &impl Print, st: State, value: u8, status: u8) -> io::Result<State> {
     let next = di::operated(st, Discrete { value, status });
-    io::write_all(OUT, b"operator ");
-    print_pair(value, status);
-    print_state(next);
-    next
+    print!(rt; "operator ")?;
+    print_pair(rt, value, status)?;
+    print_state(rt, next)?;
+    Ok(next)
 }
 
-fn warm(st: State) -> State {
+fn warm(rt: &impl Print, st: State) -> io::Result<State> {
     let next = di::warm_start(st);
-    io::write_all(OUT, b"warm start");
-    print_state(next);
-    next
+    print!(rt; "warm start")?;
+    print_state(rt, next)?;
+    Ok(next)
 }
 
 // By INVERT, FSAFE_TYPE and FSAFE_VAL_D, in a target mode.
@@ -81,96 +82,101 @@ fn auto(invert: u32, kind: u32, value: u32) -> Settings {
 }
 
 // The defaults: FSAFE_TYPE 0 gives FSAFE_VAL_D 0 with 48. A usable tick has the input's status, quality 1 too.
-fn defaults() {
-    title(b"defaults");
+fn defaults(rt: &impl Print) -> io::Result<()> {
+    title(rt, "defaults")?;
     let s = auto(0, 0, 0);
-    let st = fresh();
-    let st = tick(s, st, 1, 0x80);
-    let st = tick(s, st, 0, 0x80);
-    let st = tick(s, st, 1, 0x4e);
-    let st = tick(s, st, 1, 0x8d);
-    let st = tick(s, st, 1, 0x00);
-    let st = tick(s, st, 1, 0x80);
-    let st = tick(s, st, 1, 0xc0);
-    tick(s, st, 7, 0x80);
+    let st = fresh(rt)?;
+    let st = tick(rt, s, st, 1, 0x80)?;
+    let st = tick(rt, s, st, 0, 0x80)?;
+    let st = tick(rt, s, st, 1, 0x4e)?;
+    let st = tick(rt, s, st, 1, 0x8d)?;
+    let st = tick(rt, s, st, 1, 0x00)?;
+    let st = tick(rt, s, st, 1, 0x80)?;
+    let st = tick(rt, s, st, 1, 0xc0)?;
+    tick(rt, s, st, 7, 0x80)?;
+    Ok(())
 }
 
 // FSAFE_TYPE 2 shows the Bad status: another value than 0 or 1 is 04 unless the quality is Bad, and OUT_D keeps its value.
-fn statuses() {
-    title(b"input status");
+fn statuses(rt: &impl Print) -> io::Result<()> {
+    title(rt, "input status")?;
     let s = auto(0, 2, 0);
-    let st = fresh();
-    let st = tick(s, st, 7, 0x80);
-    let st = tick(s, st, 1, 0x80);
-    let st = tick(s, st, 7, 0x80);
-    let st = tick(s, st, 7, 0x0d);
-    let st = tick(s, st, 2, 0x4c);
-    let st = tick(s, st, 255, 0xc0);
-    let st = tick(s, st, 0, 0xc0);
-    let st = tick(s, st, 1, 0x1c);
-    let st = tick(s, st, 0, 0x3f);
-    tick(s, st, 1, 0x7f);
+    let st = fresh(rt)?;
+    let st = tick(rt, s, st, 7, 0x80)?;
+    let st = tick(rt, s, st, 1, 0x80)?;
+    let st = tick(rt, s, st, 7, 0x80)?;
+    let st = tick(rt, s, st, 7, 0x0d)?;
+    let st = tick(rt, s, st, 2, 0x4c)?;
+    let st = tick(rt, s, st, 255, 0xc0)?;
+    let st = tick(rt, s, st, 0, 0xc0)?;
+    let st = tick(rt, s, st, 1, 0x1c)?;
+    let st = tick(rt, s, st, 0, 0x3f)?;
+    tick(rt, s, st, 1, 0x7f)?;
+    Ok(())
 }
 
 // FSAFE_TYPE 1: the last usable value, 0 with 4C without one. Neither O/S nor Man moves it.
-fn last_usable() {
-    title(b"last usable value");
+fn last_usable(rt: &impl Print) -> io::Result<()> {
+    title(rt, "last usable value")?;
     let s = auto(0, 1, 1);
-    let st = fresh();
-    let st = tick(s, st, 7, 0x80);
-    let st = tick(s, st, 1, 0x00);
-    let st = tick(s, st, 1, 0x80);
-    let st = tick(s, st, 0, 0x00);
-    let st = tick(s, st, 9, 0x80);
-    let st = step(s, st, true, 0, 0x80);
-    let st = tick(settings(blocks::MAN, 0, 1, 1), st, 0, 0x80);
-    let st = tick(s, st, 0, 0xc0);
-    let st = tick(s, st, 0, 0x40);
-    tick(s, st, 1, 0x20);
+    let st = fresh(rt)?;
+    let st = tick(rt, s, st, 7, 0x80)?;
+    let st = tick(rt, s, st, 1, 0x00)?;
+    let st = tick(rt, s, st, 1, 0x80)?;
+    let st = tick(rt, s, st, 0, 0x00)?;
+    let st = tick(rt, s, st, 9, 0x80)?;
+    let st = step(rt, s, st, true, 0, 0x80)?;
+    let st = tick(rt, settings(blocks::MAN, 0, 1, 1), st, 0, 0x80)?;
+    let st = tick(rt, s, st, 0, 0xc0)?;
+    let st = tick(rt, s, st, 0, 0x40)?;
+    tick(rt, s, st, 1, 0x20)?;
+    Ok(())
 }
 
 // INVERT acts on the transducer's value alone: not on FSAFE_VAL_D, the last usable value or the old one.
-fn inverted() {
-    title(b"INVERT");
-    let st = fresh();
-    let st = tick(auto(1, 0, 1), st, 0, 0x80);
-    let st = tick(auto(1, 0, 1), st, 1, 0x80);
-    let st = tick(auto(1, 0, 1), st, 1, 0x00);
-    let st = tick(auto(1, 0, 0), st, 1, 0x00);
-    let st = tick(auto(1, 1, 1), st, 0, 0x00);
-    let st = tick(auto(1, 0, 1), st, 1, 0x00);
-    let st = tick(auto(0, 1, 1), st, 1, 0x00);
-    let st = tick(auto(1, 2, 1), st, 0, 0x00);
-    let st = tick(auto(1, 2, 1), st, 7, 0x80);
-    let st = tick(auto(1, 2, 1), st, 1, 0x0d);
-    let st = tick(auto(1, 2, 1), st, 7, 0x0d);
-    let st = warm(st);
-    tick(auto(1, 1, 1), st, 0, 0x00);
+fn inverted(rt: &impl Print) -> io::Result<()> {
+    title(rt, "INVERT")?;
+    let st = fresh(rt)?;
+    let st = tick(rt, auto(1, 0, 1), st, 0, 0x80)?;
+    let st = tick(rt, auto(1, 0, 1), st, 1, 0x80)?;
+    let st = tick(rt, auto(1, 0, 1), st, 1, 0x00)?;
+    let st = tick(rt, auto(1, 0, 0), st, 1, 0x00)?;
+    let st = tick(rt, auto(1, 1, 1), st, 0, 0x00)?;
+    let st = tick(rt, auto(1, 0, 1), st, 1, 0x00)?;
+    let st = tick(rt, auto(0, 1, 1), st, 1, 0x00)?;
+    let st = tick(rt, auto(1, 2, 1), st, 0, 0x00)?;
+    let st = tick(rt, auto(1, 2, 1), st, 7, 0x80)?;
+    let st = tick(rt, auto(1, 2, 1), st, 1, 0x0d)?;
+    let st = tick(rt, auto(1, 2, 1), st, 7, 0x0d)?;
+    let st = warm(rt, st)?;
+    tick(rt, auto(1, 1, 1), st, 0, 0x00)?;
+    Ok(())
 }
 
 // O/S holds the value; Man gives the operator's pair, in which INVERT has no part.
-fn modes() {
-    title(b"modes");
+fn modes(rt: &impl Print) -> io::Result<()> {
+    title(rt, "modes")?;
     let s = auto(0, 1, 0);
-    let st = fresh();
-    let st = tick(s, st, 1, 0x80);
-    let st = step(s, st, true, 0, 0x80);
-    let st = tick(s, st, 1, 0x8a);
-    let st = tick(settings(blocks::OUT_OF_SERVICE, 0, 1, 0), st, 0, 0x80);
-    let st = tick(settings(blocks::MAN, 0, 1, 0), st, 1, 0x80);
-    let st = operate(st, 1, 0xc3);
-    let st = tick(settings(blocks::MAN, 1, 1, 0), st, 1, 0x80);
-    let st = step(settings(blocks::MAN, 1, 1, 0), st, true, 0, 0x80);
-    let st = tick(s, st, 0, 0x00);
-    let st = warm(st);
-    let st = tick(settings(blocks::MAN, 1, 1, 0), st, 1, 0x80);
-    tick(s, st, 1, 0x00);
+    let st = fresh(rt)?;
+    let st = tick(rt, s, st, 1, 0x80)?;
+    let st = step(rt, s, st, true, 0, 0x80)?;
+    let st = tick(rt, s, st, 1, 0x8a)?;
+    let st = tick(rt, settings(blocks::OUT_OF_SERVICE, 0, 1, 0), st, 0, 0x80)?;
+    let st = tick(rt, settings(blocks::MAN, 0, 1, 0), st, 1, 0x80)?;
+    let st = operate(rt, st, 1, 0xc3)?;
+    let st = tick(rt, settings(blocks::MAN, 1, 1, 0), st, 1, 0x80)?;
+    let st = step(rt, settings(blocks::MAN, 1, 1, 0), st, true, 0, 0x80)?;
+    let st = tick(rt, s, st, 0, 0x00)?;
+    let st = warm(rt, st)?;
+    let st = tick(rt, settings(blocks::MAN, 1, 1, 0), st, 1, 0x80)?;
+    tick(rt, s, st, 1, 0x00)?;
+    Ok(())
 }
 
-fn main() {
-    defaults();
-    statuses();
-    last_usable();
-    inverted();
-    modes();
+fn main(rt: HostRuntime) -> io::Result<()> {
+    defaults(&rt)?;
+    statuses(&rt)?;
+    last_usable(&rt)?;
+    inverted(&rt)?;
+    modes(&rt)
 }

@@ -4,295 +4,240 @@
 // bits are to be cleared.
 #![tactic(auto)]
 
-use numbers::floats::float_of;
+use numbers::floats::{bits_of, float_of, is_finite, is_finite_or, is_within};
+use numbers::whole;
+use std::io;
 
-const OUT: i32 = 1;
-
-fn space() {
-    io::write_all(OUT, b" ");
-}
-
-fn end_line() {
-    io::write_all(OUT, b"\n");
-}
-
-fn title(text: &[u8]) {
-    io::write_all(OUT, text);
-    end_line();
-}
-
-fn print_bits(bits: u32) {
-    io::print_hex(OUT, bits as u64, 8);
-}
-
-fn print_flag(flag: bool) {
-    space();
-    io::print_decimal(OUT, flag as u64);
-}
-
-fn print_signed(z: i64) {
-    if z < 0 {
-        io::write_all(OUT, b"-");
-    }
-    io::print_decimal(OUT, numbers::whole::magnitude(z));
+fn title(rt: &impl Print, text: &str) -> io::Result<()> {
+    println!(rt; "{text}")
 }
 
 // Bits: what they are written back as, whether finite, whether finite or +infinity, whether finite or -infinity.
-fn single(bits: u32) {
+fn single(rt: &impl Print, bits: u32) -> io::Result<()> {
     let x = float_of(bits);
-    print_bits(bits);
-    io::write_all(OUT, b": ");
-    print_bits(numbers::floats::bits_of(x));
-    print_flag(numbers::floats::is_finite(x));
-    print_flag(numbers::floats::is_finite_or(x, false));
-    print_flag(numbers::floats::is_finite_or(x, true));
-    end_line();
+    let finite = is_finite(x) as u8;
+    let not_low = is_finite_or(x, false) as u8;
+    let not_high = is_finite_or(x, true) as u8;
+    let back = bits_of(x);
+    println!(rt; "{bits:08x}: {back:08x} {finite} {not_low} {not_high}")
 }
 
 // Low end, high end, bits: whether within.
-fn range(low: u32, high: u32, bits: u32) {
-    print_bits(low);
-    space();
-    print_bits(high);
-    space();
-    print_bits(bits);
-    io::write_all(OUT, b":");
-    print_flag(numbers::floats::is_within(float_of(bits), float_of(low), float_of(high)));
-    end_line();
+fn range(rt: &impl Print, low: u32, high: u32, bits: u32) -> io::Result<()> {
+    let within = is_within(float_of(bits), float_of(low), float_of(high)) as u8;
+    println!(rt; "{low:08x} {high:08x} {bits:08x}: {within}")
 }
 
 // Bits: the number cut toward zero.
-fn cut(bits: u32) {
-    print_bits(bits);
-    io::write_all(OUT, b": ");
-    print_signed(numbers::whole::cut(float_of(bits)));
-    end_line();
+fn cut(rt: &impl Print, bits: u32) -> io::Result<()> {
+    let whole = whole::cut(float_of(bits));
+    println!(rt; "{bits:08x}: {whole}")
 }
 
 // Number, limit: the number limited.
-fn limited(z: i64, n: i64) {
-    print_signed(z);
-    space();
-    print_signed(n);
-    io::write_all(OUT, b": ");
-    print_signed(numbers::whole::limited(z, n));
-    end_line();
+fn limited(rt: &impl Print, z: i64, n: i64) -> io::Result<()> {
+    let limited = whole::limited(z, n);
+    println!(rt; "{z} {n}: {limited}")
 }
 
 // Two numbers, limit: their sum limited.
-fn sum(a: i64, b: i64, n: i64) {
-    print_signed(a);
-    space();
-    print_signed(b);
-    space();
-    print_signed(n);
-    io::write_all(OUT, b": ");
-    print_signed(numbers::whole::limited_sum(a, b, n));
-    end_line();
+fn sum(rt: &impl Print, a: i64, b: i64, n: i64) -> io::Result<()> {
+    let limited = whole::limited_sum(a, b, n);
+    println!(rt; "{a} {b} {n}: {limited}")
 }
 
 // Magnitude: its 24 highest bits as a float.
-fn highest(m: u64) {
-    io::print_decimal(OUT, m);
-    io::write_all(OUT, b": ");
-    print_bits(numbers::floats::bits_of(numbers::whole::highest(m)));
-    end_line();
+fn highest(rt: &impl Print, m: u64) -> io::Result<()> {
+    let bits = bits_of(whole::highest(m));
+    println!(rt; "{m}: {bits:08x}")
 }
 
 // Total: the 24 highest bits of its magnitude as a float, and that divided by 1000 as TOT gives it.
-fn total(z: i64) {
-    let value = numbers::whole::value_of(z);
-    print_signed(z);
-    io::write_all(OUT, b": ");
-    print_bits(numbers::floats::bits_of(value));
-    space();
-    print_bits(numbers::floats::bits_of(value / 1000.0));
-    end_line();
+fn total(rt: &impl Print, z: i64) -> io::Result<()> {
+    let value = whole::value_of(z);
+    let bits = bits_of(value);
+    let given = bits_of(value / 1000.0);
+    println!(rt; "{z}: {bits:08x} {given:08x}")
 }
 
 // Zeros, subnormals, the ends of the normal numbers, infinities, and NaNs of both signs, quiet and signalling.
-fn singles() {
-    title(b"singles");
-    single(0x00000000);
-    single(0x80000000);
-    single(0x00000001);
-    single(0x80000001);
-    single(0x007fffff);
-    single(0x00800000);
-    single(0x3f800000);
-    single(0xc2c80000);
-    single(0x7f7fffff);
-    single(0xff7fffff);
-    single(0x7f800000);
-    single(0xff800000);
-    single(0x7f800001);
-    single(0xff800001);
-    single(0x7fbfffff);
-    single(0x7fc00000);
-    single(0xffc00000);
-    single(0x7fffffff);
-    single(0xffffffff);
+fn singles(rt: &impl Print) -> io::Result<()> {
+    title(rt, "singles")?;
+    for bits in [
+        0x00000000, 0x80000000, 0x00000001, 0x80000001, 0x007fffff, 0x00800000, 0x3f800000,
+        0xc2c80000, 0x7f7fffff, 0xff7fffff, 0x7f800000, 0xff800000, 0x7f800001, 0xff800001,
+        0x7fbfffff, 0x7fc00000, 0xffc00000, 0x7fffffff, 0xffffffff,
+    ] {
+        single(rt, bits)?;
+    }
+    Ok(())
 }
 
 // PV_FTIME's 0 to 3600, TOTAL's 10^9 to either side, ALARM_HYS's 0 to the largest single, an empty range and NaN ends.
-fn ranges() {
-    title(b"ranges");
-    range(0x00000000, 0x45610000, 0x00000000);
-    range(0x00000000, 0x45610000, 0x80000000);
-    range(0x00000000, 0x45610000, 0x80000001);
-    range(0x00000000, 0x45610000, 0x00000001);
-    range(0x00000000, 0x45610000, 0x45610000);
-    range(0x00000000, 0x45610000, 0x45610001);
-    range(0x00000000, 0x45610000, 0x7f800000);
-    range(0x00000000, 0x45610000, 0x7fc00000);
-    range(0x00000000, 0x45610000, 0xff800001);
-    range(0xce6e6b28, 0x4e6e6b28, 0x4e6e6b28);
-    range(0xce6e6b28, 0x4e6e6b28, 0x4e6e6b29);
-    range(0xce6e6b28, 0x4e6e6b28, 0xce6e6b28);
-    range(0xce6e6b28, 0x4e6e6b28, 0xce6e6b29);
-    range(0xce6e6b28, 0x4e6e6b28, 0xff800000);
-    range(0xce6e6b28, 0x4e6e6b28, 0xffffffff);
-    range(0x00000000, 0x7f7fffff, 0x7f7fffff);
-    range(0x00000000, 0x7f7fffff, 0x7f800000);
-    range(0x00000000, 0x80000000, 0x80000000);
-    range(0x3f800000, 0x00000000, 0x3f000000);
-    range(0x7fc00000, 0x3f800000, 0x00000000);
-    range(0x00000000, 0x7fc00000, 0x00000000);
-    range(0xff800000, 0x7f800000, 0x7fc00000);
-    range(0xff800000, 0x7f800000, 0xff800000);
+fn ranges(rt: &impl Print) -> io::Result<()> {
+    title(rt, "ranges")?;
+    for (low, high, bits) in [
+        (0x00000000, 0x45610000, 0x00000000),
+        (0x00000000, 0x45610000, 0x80000000),
+        (0x00000000, 0x45610000, 0x80000001),
+        (0x00000000, 0x45610000, 0x00000001),
+        (0x00000000, 0x45610000, 0x45610000),
+        (0x00000000, 0x45610000, 0x45610001),
+        (0x00000000, 0x45610000, 0x7f800000),
+        (0x00000000, 0x45610000, 0x7fc00000),
+        (0x00000000, 0x45610000, 0xff800001),
+        (0xce6e6b28, 0x4e6e6b28, 0x4e6e6b28),
+        (0xce6e6b28, 0x4e6e6b28, 0x4e6e6b29),
+        (0xce6e6b28, 0x4e6e6b28, 0xce6e6b28),
+        (0xce6e6b28, 0x4e6e6b28, 0xce6e6b29),
+        (0xce6e6b28, 0x4e6e6b28, 0xff800000),
+        (0xce6e6b28, 0x4e6e6b28, 0xffffffff),
+        (0x00000000, 0x7f7fffff, 0x7f7fffff),
+        (0x00000000, 0x7f7fffff, 0x7f800000),
+        (0x00000000, 0x80000000, 0x80000000),
+        (0x3f800000, 0x00000000, 0x3f000000),
+        (0x7fc00000, 0x3f800000, 0x00000000),
+        (0x00000000, 0x7fc00000, 0x00000000),
+        (0xff800000, 0x7f800000, 0x7fc00000),
+        (0xff800000, 0x7f800000, 0xff800000),
+    ] {
+        range(rt, low, high, bits)?;
+    }
+    Ok(())
 }
 
 // Cutting is toward zero: -1.5625 gives -1. A NaN gives 0, and what an i64 cannot hold its nearest end.
-fn cuts() {
-    title(b"cuts");
-    cut(0x00000000);
-    cut(0x80000000);
-    cut(0x00000001);
-    cut(0x80000001);
-    cut(0x3f7fffff);
-    cut(0xbf7fffff);
-    cut(0x3f800000);
-    cut(0xbfc80000);
-    cut(0x3fc80000);
-    cut(0xbf800000);
-    cut(0xc0000000);
-    cut(0xbfffffff);
-    cut(0x4b7fffff);
-    cut(0xcb000001);
-    cut(0xcaffffff);
-    cut(0x4e6e6b28);
-    cut(0xd368d4a5);
-    cut(0x5effffff);
-    cut(0x5f000000);
-    cut(0xdeffffff);
-    cut(0xdf000000);
-    cut(0xdf000001);
-    cut(0x7f7fffff);
-    cut(0xff7fffff);
-    cut(0x7f800000);
-    cut(0xff800000);
-    cut(0x7fc00000);
-    cut(0xff800001);
+fn cuts(rt: &impl Print) -> io::Result<()> {
+    title(rt, "cuts")?;
+    for bits in [
+        0x00000000, 0x80000000, 0x00000001, 0x80000001, 0x3f7fffff, 0xbf7fffff, 0x3f800000,
+        0xbfc80000, 0x3fc80000, 0xbf800000, 0xc0000000, 0xbfffffff, 0x4b7fffff, 0xcb000001,
+        0xcaffffff, 0x4e6e6b28, 0xd368d4a5, 0x5effffff, 0x5f000000, 0xdeffffff, 0xdf000000,
+        0xdf000001, 0x7f7fffff, 0xff7fffff, 0x7f800000, 0xff800000, 0x7fc00000, 0xff800001,
+    ] {
+        cut(rt, bits)?;
+    }
+    Ok(())
 }
 
 // Limits of 10^9 and 10^12, the ends of an i64, and a limit below 0, which counts as 0.
-fn limits() {
-    title(b"limits");
-    limited(999999999, 1000000000);
-    limited(1000000000, 1000000000);
-    limited(1000000001, 1000000000);
-    limited(-1000000000, 1000000000);
-    limited(-1000000001, 1000000000);
-    limited(1000000000001, 1000000000000);
-    limited(-1000000000001, 1000000000000);
-    limited(0, 0);
-    limited(1, 0);
-    limited(-1, 0);
-    limited(5, -3);
-    limited(-5, i64::MIN);
-    limited(i64::MAX, i64::MAX);
-    limited(i64::MIN, i64::MAX);
-    limited(i64::MIN, 1);
-    limited(i64::MAX, 1);
+fn limits(rt: &impl Print) -> io::Result<()> {
+    title(rt, "limits")?;
+    for (z, n) in [
+        (999999999, 1000000000),
+        (1000000000, 1000000000),
+        (1000000001, 1000000000),
+        (-1000000000, 1000000000),
+        (-1000000001, 1000000000),
+        (1000000000001, 1000000000000),
+        (-1000000000001, 1000000000000),
+        (0, 0),
+        (1, 0),
+        (-1, 0),
+        (5, -3),
+        (-5, i64::MIN),
+        (i64::MAX, i64::MAX),
+        (i64::MIN, i64::MAX),
+        (i64::MIN, 1),
+        (i64::MAX, 1),
+    ] {
+        limited(rt, z, n)?;
+    }
+    Ok(())
 }
 
 // The exact sum is limited, also where it lies beyond an i64.
-fn sums() {
-    title(b"sums");
-    sum(2, 3, 10);
-    sum(7, -9, 10);
-    sum(7, 9, 10);
-    sum(-7, -9, 10);
-    sum(999999999999, 1, 1000000000000);
-    sum(1000000000000, 1, 1000000000000);
-    sum(-1000000000000, -1000000000, 1000000000000);
-    sum(1000000000000, -1000000000, 1000000000000);
-    sum(i64::MAX, 1, i64::MAX);
-    sum(1, i64::MAX, 1000000000000);
-    sum(i64::MAX, i64::MAX, i64::MAX);
-    sum(i64::MIN, -1, i64::MAX);
-    sum(-1, i64::MIN, 1000000000000);
-    sum(i64::MIN, i64::MIN, i64::MAX);
-    sum(i64::MIN, i64::MAX, 10);
-    sum(i64::MAX, i64::MIN, i64::MAX);
-    sum(i64::MIN, 0, i64::MAX);
-    sum(0, i64::MIN, i64::MAX);
-    sum(i64::MIN, 1, i64::MAX);
-    sum(3, 4, -1);
+fn sums(rt: &impl Print) -> io::Result<()> {
+    title(rt, "sums")?;
+    for (a, b, n) in [
+        (2, 3, 10),
+        (7, -9, 10),
+        (7, 9, 10),
+        (-7, -9, 10),
+        (999999999999, 1, 1000000000000),
+        (1000000000000, 1, 1000000000000),
+        (-1000000000000, -1000000000, 1000000000000),
+        (1000000000000, -1000000000, 1000000000000),
+        (i64::MAX, 1, i64::MAX),
+        (1, i64::MAX, 1000000000000),
+        (i64::MAX, i64::MAX, i64::MAX),
+        (i64::MIN, -1, i64::MAX),
+        (-1, i64::MIN, 1000000000000),
+        (i64::MIN, i64::MIN, i64::MAX),
+        (i64::MIN, i64::MAX, 10),
+        (i64::MAX, i64::MIN, i64::MAX),
+        (i64::MIN, 0, i64::MAX),
+        (0, i64::MIN, i64::MAX),
+        (i64::MIN, 1, i64::MAX),
+        (3, 4, -1),
+    ] {
+        sum(rt, a, b, n)?;
+    }
+    Ok(())
 }
 
 // The 24 highest bits, counted from the leading one; the others are cleared and not rounded.
-fn highest_bits() {
-    title(b"highest bits");
-    highest(0);
-    highest(1);
-    highest(3);
-    highest(16777215);
-    highest(16777216);
-    highest(16777217);
-    highest(16777218);
-    highest(16777219);
-    highest(33554431);
-    highest(33554432);
-    highest(33554435);
-    highest(33554436);
-    highest(67108863);
-    highest(1000000000000);
-    highest(1099511627775);
-    highest(1099511627776);
-    highest(9223372036854775807);
-    highest(9223372036854775808);
-    highest(9223373136366403583);
-    highest(18446742974197923839);
-    highest(18446744073709551615);
+fn highest_bits(rt: &impl Print) -> io::Result<()> {
+    title(rt, "highest bits")?;
+    for m in [
+        0,
+        1,
+        3,
+        16777215,
+        16777216,
+        16777217,
+        16777218,
+        16777219,
+        33554431,
+        33554432,
+        33554435,
+        33554436,
+        67108863,
+        1000000000000,
+        1099511627775,
+        1099511627776,
+        9223372036854775807,
+        9223372036854775808,
+        9223373136366403583,
+        18446742974197923839,
+        18446744073709551615,
+    ] {
+        highest(rt, m)?;
+    }
+    Ok(())
 }
 
 // Totals of either sign, with the value that TOT gives: 46831270 for 16,777,219, where rounding would give 46831271.
-fn totals() {
-    title(b"totals");
-    total(0);
-    total(1);
-    total(-1);
-    total(16777217);
-    total(16777219);
-    total(16777251);
-    total(-16777217);
-    total(-16777219);
-    total(1000000000000);
-    total(-1000000000000);
-    total(999999995904);
-    total(-1099511627775);
-    total(i64::MAX);
-    total(i64::MIN);
-    total(-9223372036854775807);
+fn totals(rt: &impl Print) -> io::Result<()> {
+    title(rt, "totals")?;
+    for z in [
+        0,
+        1,
+        -1,
+        16777217,
+        16777219,
+        16777251,
+        -16777217,
+        -16777219,
+        1000000000000,
+        -1000000000000,
+        999999995904,
+        -1099511627775,
+        i64::MAX,
+        i64::MIN,
+        -9223372036854775807,
+    ] {
+        total(rt, z)?;
+    }
+    Ok(())
 }
 
-fn main() {
-    singles();
-    ranges();
-    cuts();
-    limits();
-    sums();
-    highest_bits();
-    totals();
+fn main(rt: HostRuntime) -> io::Result<()> {
+    singles(&rt)?;
+    ranges(&rt)?;
+    cuts(&rt)?;
+    limits(&rt)?;
+    sums(&rt)?;
+    highest_bits(&rt)?;
+    totals(&rt)
 }

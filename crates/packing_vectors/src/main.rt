@@ -4,18 +4,10 @@
 #![tactic(auto)]
 
 use device::Device;
-use libc::STDOUT_FILENO;
 use linearisation::Point;
 use packing::PACKED;
+use std::io;
 use wire::{Answer, Discrete, Pair};
-
-fn text(s: &[u8]) {
-    io::write_all(STDOUT_FILENO, s);
-}
-
-fn number(n: u8) {
-    io::print_decimal(STDOUT_FILENO, n as u64);
-}
 
 // ---- a packed device
 
@@ -27,71 +19,72 @@ fn byte(bytes: &[u8], at: usize) -> u8 {
     0
 }
 
-fn show_byte(bytes: &[u8], at: usize) {
-    io::print_hex(STDOUT_FILENO, byte(bytes, at) as u64, 2);
+fn show_byte(rt: &impl Print, bytes: &[u8], at: usize) -> io::Result<()> {
+    print!(rt; "{:02x}", byte(bytes, at))
 }
 
 // The four bytes of a word, counted in words.
-fn show_word(bytes: &[u8], i: u8) {
+fn show_word(rt: &impl Print, bytes: &[u8], i: u8) -> io::Result<()> {
     let at = 4 * i as usize;
-    text(b" ");
-    show_byte(bytes, at);
-    show_byte(bytes, at + 1);
-    show_byte(bytes, at + 2);
-    show_byte(bytes, at + 3);
+    print!(rt; " ")?;
+    show_byte(rt, bytes, at)?;
+    show_byte(rt, bytes, at + 1)?;
+    show_byte(rt, bytes, at + 2)?;
+    show_byte(rt, bytes, at + 3)
 }
 
 // A line of words, from one on and up to another.
-fn show_words(name: &[u8], bytes: &[u8], from: u8, to: u8) {
-    text(name);
-    let mut i = from;
-    while i < to {
-        show_word(bytes, i);
-        i += 1;
+fn show_words(rt: &impl Print, name: &str, bytes: &[u8], from: u8, to: u8) -> io::Result<()> {
+    print!(rt; "{name}")?;
+    for i in from..to {
+        show_word(rt, bytes, i)?;
     }
-    text(b"\n");
+    println!(rt)
 }
 
-fn show_answer(answer: Answer) {
-    number(wire::answer_number(answer));
+fn show_answer(rt: &impl Print, answer: Answer) -> io::Result<()> {
+    print!(rt; "{}", wire::answer_number(answer))
 }
 
 // A line for each struct of the device, and the byte after them.
-fn show_structs(bytes: &[u8]) {
-    show_words(b"  version, WRITE_LOCKING", bytes, 0, 2);
-    show_words(b"  AIN settings", bytes, 2, 16);
-    show_words(b"  AIN state", bytes, 16, 29);
-    show_words(b"  AIN ST_REV", bytes, 29, 30);
-    show_words(b"  AIN table, count", bytes, 30, 31);
-    show_words(b"  pairs 1 to 7", bytes, 31, 45);
-    show_words(b"  pairs 8 to 14", bytes, 45, 59);
-    show_words(b"  pairs 15 to 21", bytes, 59, 73);
-    show_words(b"  TOT settings", bytes, 73, 78);
-    show_words(b"  TOT state", bytes, 78, 86);
-    show_words(b"  TOT ST_REV", bytes, 86, 87);
-    show_words(b"  AO settings", bytes, 87, 96);
-    show_words(b"  AO state", bytes, 96, 109);
-    show_words(b"  AO ST_REV", bytes, 109, 110);
-    show_words(b"  DI settings", bytes, 110, 114);
-    show_words(b"  DI state", bytes, 114, 121);
-    show_words(b"  DI ST_REV", bytes, 121, 122);
-    show_words(b"  DO settings", bytes, 122, 127);
-    show_words(b"  DO state", bytes, 127, 140);
-    show_words(b"  DO ST_REV", bytes, 140, 141);
-    text(b"  after them ");
-    show_byte(bytes, PACKED);
-    text(b"\n");
+fn show_structs(rt: &impl Print, bytes: &[u8]) -> io::Result<()> {
+    for (name, from, to) in [
+        ("  version, WRITE_LOCKING", 0, 2),
+        ("  AIN settings", 2, 16),
+        ("  AIN state", 16, 29),
+        ("  AIN ST_REV", 29, 30),
+        ("  AIN table, count", 30, 31),
+        ("  pairs 1 to 7", 31, 45),
+        ("  pairs 8 to 14", 45, 59),
+        ("  pairs 15 to 21", 59, 73),
+        ("  TOT settings", 73, 78),
+        ("  TOT state", 78, 86),
+        ("  TOT ST_REV", 86, 87),
+        ("  AO settings", 87, 96),
+        ("  AO state", 96, 109),
+        ("  AO ST_REV", 109, 110),
+        ("  DI settings", 110, 114),
+        ("  DI state", 114, 121),
+        ("  DI ST_REV", 121, 122),
+        ("  DO settings", 122, 127),
+        ("  DO state", 127, 140),
+        ("  DO ST_REV", 140, 141),
+    ] {
+        show_words(rt, name, bytes, from, to)?;
+    }
+    print!(rt; "  after them ")?;
+    show_byte(rt, bytes, PACKED)?;
+    println!(rt)
 }
 
 // A device's words, from a buffer that has a byte more.
-fn show(name: &[u8], d: Device) {
+fn show(rt: &impl Print, name: &str, d: Device) -> io::Result<()> {
     let mut bytes = [0xa5u8; 565];
     let answer = packing::pack(d, &mut bytes);
-    text(name);
-    text(b": ");
-    show_answer(answer);
-    text(b"\n");
-    show_structs(&bytes);
+    print!(rt; "{name}: ")?;
+    show_answer(rt, answer)?;
+    println!(rt)?;
+    show_structs(rt, &bytes)
 }
 
 // ---- devices
@@ -221,22 +214,21 @@ fn ends() -> Device {
 // ---- bytes unpacked
 
 // The answer, and of which device: the one that packs to these bytes, or the factory's.
-fn unpacked(name: &[u8], bytes: &[u8]) {
+fn unpacked(rt: &impl Print, name: &str, bytes: &[u8]) -> io::Result<()> {
     let u = packing::unpack(bytes);
     let mut again = [0u8; 564];
     let mut fresh = [0u8; 564];
     packing::pack(u.device, &mut again);
     packing::pack(device::factory(), &mut fresh);
-    text(name);
-    text(b": ");
-    number(u.answer);
-    if check::same(bytes, &again) {
-        text(b", packs to the bytes");
+    let answer = u.answer;
+    print!(rt; "{name}: {answer}")?;
+    if bytes == again.as_slice() {
+        print!(rt; ", packs to the bytes")?;
     }
-    if check::same(&fresh, &again) {
-        text(b", factory");
+    if fresh == again {
+        print!(rt; ", factory")?;
     }
-    text(b"\n");
+    println!(rt)
 }
 
 fn set(bytes: [u8; 564], at: usize, value: u8) -> [u8; 564] {
@@ -248,7 +240,7 @@ fn set(bytes: [u8; 564], at: usize, value: u8) -> [u8; 564] {
 }
 
 // The packed bytes of a device with one word, counted from 0, made another.
-fn changed(name: &[u8], d: Device, i: u8, word: u32) {
+fn changed(rt: &impl Print, name: &str, d: Device, i: u8, word: u32) -> io::Result<()> {
     let mut bytes = [0u8; 564];
     packing::pack(d, &mut bytes);
     let at = 4 * i as usize;
@@ -256,67 +248,76 @@ fn changed(name: &[u8], d: Device, i: u8, word: u32) {
     bytes = set(bytes, at + 1, (word / 0x1_0000 % 256) as u8);
     bytes = set(bytes, at + 2, (word / 0x100 % 256) as u8);
     bytes = set(bytes, at + 3, (word % 256) as u8);
-    unpacked(name, &bytes);
+    unpacked(rt, name, &bytes)
 }
 
-fn lengths() {
+fn lengths(rt: &impl Print) -> io::Result<()> {
     let mut bytes = [0u8; 565];
     packing::pack(used(), &mut bytes);
-    unpacked(b"no bytes", &bytes[0..0]);
-    unpacked(b"264 bytes", &bytes[0..264]);
-    unpacked(b"440 bytes", &bytes[0..440]);
-    unpacked(b"563 bytes", &bytes[0..563]);
-    unpacked(b"564 bytes", &bytes[0..564]);
-    unpacked(b"565 bytes", &bytes);
+    unpacked(rt, "no bytes", &bytes[0..0])?;
+    unpacked(rt, "264 bytes", &bytes[0..264])?;
+    unpacked(rt, "440 bytes", &bytes[0..440])?;
+    unpacked(rt, "563 bytes", &bytes[0..563])?;
+    unpacked(rt, "564 bytes", &bytes[0..564])?;
+    unpacked(rt, "565 bytes", &bytes)
 }
 
 // A buffer that is a byte too short.
-fn short() {
+fn short(rt: &impl Print) -> io::Result<()> {
     let before = [0xa5u8; 563];
     let mut bytes = before;
     let answer = packing::pack(used(), &mut bytes);
-    text(b"into 563 bytes: ");
-    show_answer(answer);
-    if check::same(&before, &bytes) {
-        text(b", unchanged");
+    print!(rt; "into 563 bytes: ")?;
+    show_answer(rt, answer)?;
+    if before == bytes {
+        print!(rt; ", unchanged")?;
     }
-    text(b"\n");
+    println!(rt)
 }
 
-fn words() {
+fn words(rt: &impl Print) -> io::Result<()> {
     let d = used();
-    changed(b"version 0", d, 0, 0);
-    changed(b"version 1", d, 0, 1);
-    changed(b"version 2", d, 0, 2);
-    changed(b"version 0x03000000", d, 0, 0x300_0000);
-    changed(b"a filter flag of 0", d, 19, 0);
-    changed(b"a filter flag of 2", d, 19, 2);
-    changed(b"a flag of 0x80000001", d, 19, 0x8000_0001);
-    changed(b"a status of 255", d, 17, 255);
-    changed(b"a status of 256", d, 17, 256);
-    changed(b"TOT's operator status of 0x180", d, 85, 0x180);
-    changed(b"ST_REV 65535", d, 29, 65535);
-    changed(b"ST_REV 65536", d, 29, 65536);
-    changed(b"a NaN 0x7FC00000", d, 8, 0x7fc0_0000);
-    changed(b"a NaN 0x7FC00001", d, 8, 0x7fc0_0001);
-    changed(b"a NaN 0xFFC00000", d, 8, 0xffc0_0000);
-    changed(b"a NaN 0x7F800001", d, 8, 0x7f80_0001);
-    changed(b"a value's bits 0x7F800001", d, 16, 0x7f80_0001);
-    changed(b"LIN_TYPE 2", d, 7, 2);
-    changed(b"a count of 22", d, 30, 22);
-    changed(b"the first x a NaN 0x7FC00000", d, 31, 0x7fc0_0000);
-    changed(b"the first y a NaN 0xFFC00000", d, 32, 0xffc0_0000);
-    changed(b"the last x a NaN 0x7FC00001", d, 71, 0x7fc0_0001);
-    changed(b"the last y a NaN 0x7FC00000", d, 72, 0x7fc0_0000);
-    changed(b"a total of 2 ^ 63 - 1", with_total(d, i64::MAX), 0, 3);
-    changed(b"IFS of AO's last input 0x100", d, 108, 0x100);
-    changed(b"DI's OUT_D 255", d, 114, 255);
-    changed(b"DI's OUT_D 256", d, 114, 256);
-    changed(b"DI's kept flag of 2", d, 117, 2);
-    changed(b"DI's ST_REV 65536", d, 121, 65536);
-    changed(b"DO's SP_D 256", d, 133, 256);
-    changed(b"IFS of DO's last input 0x100", d, 139, 0x100);
-    changed(b"DO's ST_REV 65536", d, 140, 65536);
+    for (name, i, word) in [
+        ("version 0", 0, 0),
+        ("version 1", 0, 1),
+        ("version 2", 0, 2),
+        ("version 0x03000000", 0, 0x300_0000),
+        ("a filter flag of 0", 19, 0),
+        ("a filter flag of 2", 19, 2),
+        ("a flag of 0x80000001", 19, 0x8000_0001),
+        ("a status of 255", 17, 255),
+        ("a status of 256", 17, 256),
+        ("TOT's operator status of 0x180", 85, 0x180),
+        ("ST_REV 65535", 29, 65535),
+        ("ST_REV 65536", 29, 65536),
+        ("a NaN 0x7FC00000", 8, 0x7fc0_0000),
+        ("a NaN 0x7FC00001", 8, 0x7fc0_0001),
+        ("a NaN 0xFFC00000", 8, 0xffc0_0000),
+        ("a NaN 0x7F800001", 8, 0x7f80_0001),
+        ("a value's bits 0x7F800001", 16, 0x7f80_0001),
+        ("LIN_TYPE 2", 7, 2),
+        ("a count of 22", 30, 22),
+        ("the first x a NaN 0x7FC00000", 31, 0x7fc0_0000),
+        ("the first y a NaN 0xFFC00000", 32, 0xffc0_0000),
+        ("the last x a NaN 0x7FC00001", 71, 0x7fc0_0001),
+        ("the last y a NaN 0x7FC00000", 72, 0x7fc0_0000),
+    ] {
+        changed(rt, name, d, i, word)?;
+    }
+    changed(rt, "a total of 2 ^ 63 - 1", with_total(d, i64::MAX), 0, 3)?;
+    for (name, i, word) in [
+        ("IFS of AO's last input 0x100", 108, 0x100),
+        ("DI's OUT_D 255", 114, 255),
+        ("DI's OUT_D 256", 114, 256),
+        ("DI's kept flag of 2", 117, 2),
+        ("DI's ST_REV 65536", 121, 65536),
+        ("DO's SP_D 256", 133, 256),
+        ("IFS of DO's last input 0x100", 139, 0x100),
+        ("DO's ST_REV 65536", 140, 65536),
+    ] {
+        changed(rt, name, d, i, word)?;
+    }
+    Ok(())
 }
 
 fn with_total(d: Device, z: i64) -> Device {
@@ -329,16 +330,16 @@ fn with_total(d: Device, z: i64) -> Device {
     next
 }
 
-fn main() {
-    show(b"factory", device::factory());
-    show(b"used", used());
-    show(b"tabled", tabled());
-    show(b"ends", ends());
-    changed(b"factory", device::factory(), 0, 3);
-    changed(b"used", used(), 0, 3);
-    changed(b"tabled", tabled(), 0, 3);
-    changed(b"ends", ends(), 0, 3);
-    short();
-    lengths();
-    words();
+fn main(rt: HostRuntime) -> io::Result<()> {
+    show(&rt, "factory", device::factory())?;
+    show(&rt, "used", used())?;
+    show(&rt, "tabled", tabled())?;
+    show(&rt, "ends", ends())?;
+    changed(&rt, "factory", device::factory(), 0, 3)?;
+    changed(&rt, "used", used(), 0, 3)?;
+    changed(&rt, "tabled", tabled(), 0, 3)?;
+    changed(&rt, "ends", ends(), 0, 3)?;
+    short(&rt)?;
+    lengths(&rt)?;
+    words(&rt)
 }

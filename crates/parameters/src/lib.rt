@@ -291,6 +291,7 @@ fn lacks_table(s: Standing, block: u8, parameter: u8, a: u32) -> bool
 }
 
 // What a write is answered.
+#[tactic(auto, unfolding(crate::specs::Refused::ground))]
 pub fn answer_to(s: Standing, block: u8, parameter: u8, a: u32, b: u32) -> Answer
     ensures { result ≡ ground s block parameter a b }
 {

@@ -5,13 +5,16 @@
 
 mod summary;
 
-ghost use Rattle.std.specs.Prelude.{◌≤◌, ◌<◌};
-ghost use lib.ListN.{length};
+ghost use Rattle.std.specs.Prelude.{◌≤◌, ◌<◌, length};
 
 use ao::Order;
 use device::{Answered, Device, Reading};
-use libc::{STDERR_FILENO, STDIN_FILENO, STDOUT_FILENO};
 use script::{Answer, Command};
+use std::env::FillError;
+use std::io;
+use std::io::{Read, Write};
+use std::process::ExitCode;
+use std::rt::Env;
 use summary::{Counts, Fails};
 use wire::{Discrete, Pair, Refusal};
 
@@ -237,8 +240,24 @@ fn run(d: Device, line: &[u8], out: &mut [u8], at: usize) -> Done {
 
 // ---- output
 
+// Says what could not be read or written. Where that cannot be said either, the exit status still tells it.
+fn failed(rt: &impl Eprint, what: &str, why: io::Error) {
+    let _ = eprintln!(rt; "{what}: {why}");
+}
+
+// Whether all of the answers could be written.
+fn written(rt: &(impl Print + Eprint), answers: &[u8]) -> bool {
+    match io::writer(rt).write_all(answers) {
+        Ok(()) => true,
+        Err(why) => {
+            failed(rt, "standard output", why);
+            false
+        }
+    }
+}
+
 // Writes the answers that are held. After a write that failed nothing is written: answers with a hole would look whole.
-fn flushed(s: State, out: &[u8]) -> State
+fn flushed(rt: &(impl Print + Eprint), s: State, out: &[u8]) -> State
     ensures { result.length ≤ s.length }
 {
     let place = s.place;
@@ -248,15 +267,16 @@ fn flushed(s: State, out: &[u8]) -> State
         return next;
     }
     if place > out.len() {
+        failed(rt, "standard output", io::ErrorKind::WriteZero.into());
         next.open = false;
         return next;
     }
-    next.open = io::write_all(STDOUT_FILENO, &out[..place]);
+    next.open = written(rt, &out[..place]);
     next
 }
 
 // Writes them where the longest answer, of 198 bytes, might not fit.
-fn with_room(s: State, out: &[u8]) -> State
+fn with_room(rt: &(impl Print + Eprint), s: State, out: &[u8]) -> State
     ensures { result.length ≤ s.length }
 {
     let n = out.len();
@@ -264,7 +284,7 @@ fn with_room(s: State, out: &[u8]) -> State
         return s;
     }
     if s.place > n - 256 {
-        return flushed(s, out);
+        return flushed(rt, s, out);
     }
     s
 }
@@ -284,7 +304,7 @@ fn ends_in_return(line: &[u8]) -> bool {
 }
 
 // The line that is held is whole.
-fn line_ended(s: State, line: &[u8], out: &mut [u8]) -> State
+fn line_ended(rt: &(impl Print + Eprint), s: State, line: &[u8], out: &mut [u8]) -> State
     requires { s.length ≤ length line.now }
     ensures { result.length ≤ 0 }
 {
@@ -306,15 +326,21 @@ fn line_ended(s: State, line: &[u8], out: &mut [u8]) -> State
     next.counts = counts;
     next.length = 0;
     next.place = made.place;
-    with_room(next, out)
+    with_room(rt, next, out)
 }
 
-fn line_ended_if(ended: bool, s: State, line: &[u8], out: &mut [u8]) -> State
+fn line_ended_if(
+    rt: &(impl Print + Eprint),
+    ended: bool,
+    s: State,
+    line: &[u8],
+    out: &mut [u8],
+) -> State
     requires { s.length ≤ length line.now }
     ensures { result.length ≤ length line.now }
 {
     if ended {
-        return line_ended(s, line, out);
+        return line_ended(rt, s, line, out);
     }
     s
 }
@@ -322,20 +348,20 @@ fn line_ended_if(ended: bool, s: State, line: &[u8], out: &mut [u8]) -> State
 // The place of the next 0x0A, or the chunk's end.
 fn line_end(chunk: &[u8], from: usize) -> usize
     requires { from ≤ length chunk.now }
-    ensures { (from ≤ result) × (result ≤ length chunk.now) }
+    ensures after { from ≤ result }
+    ensures within { result ≤ length chunk.now }
 {
-    let mut i = from;
-    while i < chunk.len() {
+    for i in from..chunk.len() {
         if chunk[i] == b'\n' {
             return i;
         }
-        i += 1;
     }
-    i
+    chunk.len()
 }
 
 fn least(a: usize, b: usize) -> usize
-    ensures { (result ≤ a) × (result ≤ b) }
+    ensures first { result ≤ a }
+    ensures second { result ≤ b }
 {
     if a < b {
         return a;
@@ -343,22 +369,19 @@ fn least(a: usize, b: usize) -> usize
     b
 }
 
-// Adds bytes to the line, as many as its buffer has room for, and gives how many it holds then.
-fn held(line: &mut [u8], length: usize, bytes: &[u8]) -> usize
-    requires { length ≤ lib.ListN.length line.old }
-    ensures { result ≤ lib.ListN.length line.old }
+// Adds bytes to the line from a place on, as many as its buffer has room for, and gives how many it holds then.
+fn held(line: &mut [u8], at: usize, bytes: &[u8]) -> usize
+    requires { at ≤ length line.old }
+    ensures { result ≤ length line.old }
 {
-    let n = least(bytes.len(), line.len() - length);
-    let mut i = 0;
-    while i < n {
-        line[length + i] = bytes[i];
-        i += 1;
-    }
-    length + n
+    let n = least(bytes.len(), line.len() - at);
+    line[at..at + n].copy_from_slice(&bytes[..n]);
+    at + n
 }
 
 // Adds the part of a chunk that belongs to one line; where 0x0A ends it there, the line's call is made.
 fn line_of(
+    rt: &(impl Print + Eprint),
     s: State,
     chunk: &[u8],
     from: usize,
@@ -366,17 +389,25 @@ fn line_of(
     line: &mut [u8],
     out: &mut [u8],
 ) -> State
-    requires { (from ≤ end) × (end ≤ length chunk.now) × (s.length ≤ length line.old) }
+    requires ordered { from ≤ end }
+    requires within { end ≤ length chunk.now }
+    requires held { s.length ≤ length line.old }
     ensures { result.length ≤ length line.old }
 {
     let length = held(line, s.length, &chunk[from..end]);
     let mut next = s;
     next.length = length;
-    line_ended_if(end < chunk.len(), next, line, out)
+    line_ended_if(rt, end < chunk.len(), next, line, out)
 }
 
 // The lines of a chunk of input. What follows its last 0x0A is held.
-fn lines_of(s: State, chunk: &[u8], line: &mut [u8], out: &mut [u8]) -> State
+fn lines_of(
+    rt: &(impl Print + Eprint),
+    s: State,
+    chunk: &[u8],
+    line: &mut [u8],
+    out: &mut [u8],
+) -> State
     requires { s.length ≤ length line.old }
     ensures { result.length ≤ length line.old }
 {
@@ -384,7 +415,7 @@ fn lines_of(s: State, chunk: &[u8], line: &mut [u8], out: &mut [u8]) -> State
     let mut from = 0;
     while from < chunk.len() {
         let end = line_end(chunk, from);
-        state = line_of(state, chunk, from, end, line, out);
+        state = line_of(rt, state, chunk, from, end, line, out);
         from = end + 1;
     }
     state
@@ -393,31 +424,37 @@ fn lines_of(s: State, chunk: &[u8], line: &mut [u8], out: &mut [u8]) -> State
 // ---- input
 
 // Reads a chunk of input and makes its calls. The answers are written before more is read: who sends calls may wait for them.
-fn next_chunk(s: State, input: &mut [u8], line: &mut [u8], out: &mut [u8]) -> Turn
+fn next_chunk(
+    rt: &(impl Input + Print + Eprint),
+    s: State,
+    input: &mut [u8],
+    line: &mut [u8],
+    out: &mut [u8],
+) -> Turn
     requires { s.length ≤ length line.old }
     ensures { result.state.length ≤ length line.old }
 {
-    let got = libc::read(STDIN_FILENO, input);
-    if got < 0 {
-        os::fail(b"standard input");
-        let mut state = s;
-        state.readable = false;
-        return Turn {
-            state: state,
-            more: false,
-        };
-    }
-    if got == 0 {
-        return Turn {
+    match rt.reader().read(input) {
+        Err(why) => {
+            failed(rt, "standard input", why);
+            let mut state = s;
+            state.readable = false;
+            Turn {
+                state: state,
+                more: false,
+            }
+        }
+        Ok(0) => Turn {
             state: s,
             more: false,
-        };
-    }
-    let n = io::count(got, input);
-    let state = flushed(lines_of(s, &input[..n], line, out), out);
-    Turn {
-        state: state,
-        more: state.open,
+        },
+        Ok(n) => {
+            let state = flushed(rt, lines_of(rt, s, &input[..n], line, out), out);
+            Turn {
+                state: state,
+                more: state.open,
+            }
+        }
     }
 }
 
@@ -433,20 +470,21 @@ fn turns_left(turns: u64, more: bool) -> u64
 }
 
 // A last line without 0x0A counts as well, but not what came of a line before a read that failed.
-fn input_ended(s: State, line: &[u8], out: &mut [u8]) -> State
+fn input_ended(rt: &(impl Print + Eprint), s: State, line: &[u8], out: &mut [u8]) -> State
     requires { s.length ≤ length line.now }
 {
     let last = (s.length > 0) & s.readable;
-    let state = flushed(line_ended_if(last, s, line, out), out);
-    if !state.open {
-        os::fail(b"standard output");
-    }
-    state
+    flushed(rt, line_ended_if(rt, last, s, line, out), out)
 }
 
 // Reads to the input's end. A proved loop has to end, and nothing says that input does: so it counts its turns down, from a
 // number that no run uses up.
-fn replay(input: &mut [u8], line: &mut [u8], out: &mut [u8]) -> State {
+fn replay(
+    rt: &(impl Input + Print + Eprint),
+    input: &mut [u8],
+    line: &mut [u8],
+    out: &mut [u8],
+) -> State {
     let mut state = State {
         device: device::factory(),
         length: 0,
@@ -457,11 +495,11 @@ fn replay(input: &mut [u8], line: &mut [u8], out: &mut [u8]) -> State {
     };
     let mut turns = u64::MAX;
     while turns > 0 {
-        let next = next_chunk(state, input, line, out);
+        let next = next_chunk(rt, state, input, line, out);
         state = next.state;
         turns = turns_left(turns, next.more);
     }
-    input_ended(state, line, out)
+    input_ended(rt, state, line, out)
 }
 
 // ---- arguments
@@ -473,40 +511,55 @@ enum Asked {
     Other,
 }
 
-fn wanted() -> Asked {
-    let count = os::arg_count();
-    if count < 2 {
-        return Asked::Answers;
-    }
+// Whether an argument is missing; one that is there may be of any length.
+fn is_missing(rt: &impl Env, i: usize) -> bool {
+    let mut word = [0u8; 1];
+    matches!(rt.arg(i, &mut word), Err(FillError::NotPresent))
+}
+
+fn wanted(rt: &impl Env) -> Asked {
     let mut word = [0u8; 16];
-    let n = os::arg(1, &mut word);
-    let summary = check::same(&word[..n], b"--summary");
-    if summary & (count == 2) {
-        return Asked::Summary;
-    }
-    Asked::Other
-}
-
-fn replay_all(summary: bool) {
-    let mut input = io::large_buffer();
-    let mut line = [0u8; 4097];
-    let mut out = io::large_buffer();
-    let state = replay(&mut input, &mut line, &mut out);
-    if summary & state.readable & state.open {
-        summary::tell(state.counts);
-    }
-}
-
-fn main() {
-    let asked = wanted();
-    match asked {
-        Asked::Answers => replay_all(false),
-        Asked::Summary => replay_all(true),
-        Asked::Other => {
-            io::write_all(
-                STDERR_FILENO,
-                b"replay: reads a call script on standard input; its one argument is --summary\n",
-            );
+    match rt.arg(1, &mut word) {
+        Err(FillError::NotPresent) => Asked::Answers,
+        Err(FillError::TooLong) => Asked::Other,
+        Ok(n) => {
+            let summary = &word[..n] == b"--summary".as_slice();
+            if summary & is_missing(rt, 2) {
+                return Asked::Summary;
+            }
+            Asked::Other
         }
+    }
+}
+
+// Whether all of the input was read and all answers were written, and told where that was asked for.
+fn replay_all(rt: &(impl Input + Print + Eprint), summary: bool) -> bool {
+    let mut input = [0u8; 65536];
+    let mut line = [0u8; 4097];
+    let mut out = [0u8; 65536];
+    let state = replay(rt, &mut input, &mut line, &mut out);
+    let whole = state.readable & state.open;
+    if summary & whole {
+        return summary::tell(rt, state.counts).is_ok();
+    }
+    whole
+}
+
+// Status 1: not all could be read, written and told.
+fn main(rt: HostRuntime) -> ExitCode {
+    let whole = match wanted(&rt) {
+        Asked::Answers => replay_all(&rt, false),
+        Asked::Summary => replay_all(&rt, true),
+        Asked::Other => {
+            let _ = eprintln!(rt;
+                "replay: reads a call script on standard input; its one argument is --summary"
+            );
+            return ExitCode::SUCCESS;
+        }
+    };
+    if whole {
+        ExitCode::SUCCESS
+    } else {
+        ExitCode::FAILURE
     }
 }

@@ -4,8 +4,8 @@ ghost use Rattle.std.specs.Prelude.{◌<◌};
 use ain::Alarms;
 use ao::Order;
 use device::Device;
-use libc::STDERR_FILENO;
 use script::Answer;
+use std::io;
 use wire::{Discrete, Pair};
 
 // Refusals are numbered from 1 on; a larger number than the array has places for would be counted in its place 0.
@@ -228,82 +228,68 @@ pub fn counted(
 
 // ---- telling
 
-fn say(words: &[u8]) {
-    io::write_all(STDERR_FILENO, words);
-}
-
-fn number(before: &[u8], n: u64) {
-    say(before);
-    io::print_decimal(STDERR_FILENO, n);
-}
-
-fn between(met: bool) {
+fn between(rt: &impl Eprint, met: bool) -> io::Result<()> {
     if met {
-        say(b", ");
-        return;
+        return eprint!(rt; ", ");
     }
-    say(b" (");
+    eprint!(rt; " (")
 }
 
 // ` (2 as 5, 1 as 7)`, of the numbers that were met.
-fn each_refusal(refused: &[u64]) {
-    let mut i = 0;
+fn each_refusal(rt: &impl Eprint, refused: &[u64]) -> io::Result<()> {
     let mut met = false;
-    while i < refused.len() {
-        let n = refused[i];
-        if n > 0 {
-            between(met);
-            number(b"", n);
-            number(b" as ", i as u64);
+    for (number, n) in refused.iter().enumerate() {
+        if *n > 0 {
+            between(rt, met)?;
+            eprint!(rt; "{n} as {number}")?;
             met = true;
         }
-        i += 1;
     }
-    say(b")");
+    eprint!(rt; ")")
 }
 
-fn tell_refusals(c: Counts) {
-    number(b"summary: refused: ", c.refusals);
+fn tell_refusals(rt: &impl Eprint, c: Counts) -> io::Result<()> {
+    eprint!(rt; "summary: refused: {}", c.refusals)?;
     if c.refusals > 0 {
         let refused = c.refused;
-        each_refusal(&refused);
-        number(b", the first in line ", c.first_refused);
+        each_refusal(rt, &refused)?;
+        eprint!(rt; ", the first in line {}", c.first_refused)?;
     }
-    say(b"\n");
+    eprintln!(rt)
 }
 
-fn tell_errors(c: Counts) {
-    number(b"summary: errors: ", c.errors);
+fn tell_errors(rt: &impl Eprint, c: Counts) -> io::Result<()> {
+    eprint!(rt; "summary: errors: {}", c.errors)?;
     if c.errors > 0 {
-        number(b", the first in line ", c.first_error);
+        eprint!(rt; ", the first in line {}", c.first_error)?;
     }
-    say(b"\n");
+    eprintln!(rt)?;
     if c.returns > 0 {
-        number(
-            b"summary: errors in lines that end in a carriage return: ",
-            c.returns,
-        );
-        say(b"; the form ends a line in 0x0A alone, without 0x0D\n");
+        eprintln!(rt;
+            "summary: errors in lines that end in a carriage return: {}; the form ends a line in 0x0A alone, without 0x0D",
+            c.returns
+        )?;
     }
+    Ok(())
 }
 
 // Every line begins alike, and the last one says that all of it was told.
-pub fn tell(c: Counts) {
-    number(b"summary: lines: ", c.lines);
-    number(b", calls: ", c.calls);
-    number(b"\nsummary: ticks: ", c.ticks);
-    number(b", at 0.1 s each ", c.ticks / 10);
-    number(b".", c.ticks % 10);
-    say(b" s\n");
-    tell_refusals(c);
-    tell_errors(c);
-    number(b"summary: alarms that rose: HI_HI ", c.hi_hi);
-    number(b", HI ", c.hi);
-    number(b", LO ", c.lo);
-    number(b", LO_LO ", c.lo_lo);
-    number(b"\nsummary: ticks in fail-safe: AIN ", c.ain);
-    number(b", AO ", c.ao);
-    number(b", DI ", c.di);
-    number(b", DO ", c.dout);
-    say(b"\n");
+pub fn tell(rt: &impl Eprint, c: Counts) -> io::Result<()> {
+    eprintln!(rt; "summary: lines: {}, calls: {}", c.lines, c.calls)?;
+    eprintln!(rt;
+        "summary: ticks: {}, at 0.1 s each {}.{} s",
+        c.ticks,
+        c.ticks / 10,
+        c.ticks % 10
+    )?;
+    tell_refusals(rt, c)?;
+    tell_errors(rt, c)?;
+    eprintln!(rt;
+        "summary: alarms that rose: HI_HI {}, HI {}, LO {}, LO_LO {}",
+        c.hi_hi, c.hi, c.lo, c.lo_lo
+    )?;
+    eprintln!(rt;
+        "summary: ticks in fail-safe: AIN {}, AO {}, DI {}, DO {}",
+        c.ain, c.ao, c.di, c.dout
+    )
 }

@@ -4,16 +4,18 @@
 // number.
 #![tactic(auto)]
 
-use libc::STDOUT_FILENO;
+use std::io;
+use std::io::Write;
 use wire::status::{Limits, Quality, Status};
 use wire::{Answer, Discrete, DiscreteReceived, Pair, Received, Refusal};
 
 // Writes the first `at` bytes of a line, and its end.
-fn show(line: &mut [u8], at: usize) {
+fn show(rt: &impl Print, line: &mut [u8], at: usize) -> io::Result<()> {
     let end = text::put_bytes(line, at, b"\n");
     if end <= line.len() {
-        io::write_all(STDOUT_FILENO, &line[0..end]);
+        io::writer(rt).write_all(&line[0..end])?;
     }
+    Ok(())
 }
 
 // A space and a byte.
@@ -31,10 +33,8 @@ fn put_number(line: &mut [u8], at: usize, n: u64) -> usize {
 // Each byte of a row after a space.
 fn put_row(line: &mut [u8], at: usize, row: &[u8]) -> usize {
     let mut next = at;
-    let mut i = 0;
-    while i < row.len() {
-        next = put_byte(line, next, row[i]);
-        i += 1;
+    for byte in row {
+        next = put_byte(line, next, *byte);
     }
     next
 }
@@ -70,16 +70,14 @@ fn put_parts(line: &mut [u8], at: usize, status: u8) -> usize {
 }
 
 // Sixteen status bytes from 16 × row on.
-fn parts_row(row: u8) {
+fn parts_row(rt: &impl Print, row: u8) -> io::Result<()> {
     let mut line = [0u8; 200];
     let first = row % 16 * 16;
     let mut at = text::put_byte(&mut line, 0, first);
-    let mut k = 0;
-    while k < 16 {
+    for k in 0..16 {
         at = put_parts(&mut line, at, first + k);
-        k += 1;
     }
-    show(&mut line, at);
+    show(rt, &mut line, at)
 }
 
 // Whether a status byte is built again from what it says, and its parts as numbers are those of the cases.
@@ -95,29 +93,27 @@ fn agrees(status: u8) -> bool {
 
 // How many status bytes from 0 on agree: 256 where all do.
 fn agreeing() -> u64 {
-    let mut status: u64 = 0;
-    while status < 256 {
+    for status in 0..256 {
         if !agrees(status as u8) {
             return status;
         }
-        status += 1;
     }
-    status
+    256
 }
 
 // A status byte and the three numbers that `quality`, `sub_status` and `limits` give.
-fn numbers(status: u8) {
+fn numbers(rt: &impl Print, status: u8) -> io::Result<()> {
     let mut line = [0u8; 60];
     let mut at = text::put_bytes(&mut line, 0, b"status");
     at = put_byte(&mut line, at, status);
     at = put_number(&mut line, at, wire::quality(status) as u64);
     at = put_number(&mut line, at, wire::sub_status(status) as u64);
     at = put_number(&mut line, at, wire::limits(status) as u64);
-    show(&mut line, at);
+    show(rt, &mut line, at)
 }
 
 // The status byte built from Good, a sub-status and a high limit.
-fn built(sub_status: u8) {
+fn built(rt: &impl Print, sub_status: u8) -> io::Result<()> {
     let mut line = [0u8; 60];
     let quality = Quality::Good;
     let limits = Limits::High;
@@ -129,7 +125,7 @@ fn built(sub_status: u8) {
     let mut at = text::put_bytes(&mut line, 0, b"built");
     at = put_number(&mut line, at, sub_status as u64);
     at = put_byte(&mut line, at, wire::status::built(s));
-    show(&mut line, at);
+    show(rt, &mut line, at)
 }
 
 // What five bytes stand for.
@@ -150,7 +146,7 @@ fn put_received(line: &mut [u8], at: usize, r: Received) -> usize {
 }
 
 // A pair put into five bytes and read again.
-fn there_and_back(bits: u32, status: u8) {
+fn there_and_back(rt: &impl Print, bits: u32, status: u8) -> io::Result<()> {
     let mut line = [0u8; 100];
     let mut five = [0u8; 5];
     wire::put(&mut five, 0, Pair { bits, status });
@@ -159,11 +155,11 @@ fn there_and_back(bits: u32, status: u8) {
     at = text::put_bytes(&mut line, at, b":");
     at = put_row(&mut line, at, &five);
     at = put_received(&mut line, at, wire::pair_of(&five));
-    show(&mut line, at);
+    show(rt, &mut line, at)
 }
 
 // A pair put at a place of eight bytes.
-fn put_at(place: usize) {
+fn put_at(rt: &impl Print, place: usize) -> io::Result<()> {
     let mut line = [0u8; 100];
     let mut buf = [0xA5u8; 8];
     let a = wire::put(
@@ -179,20 +175,20 @@ fn put_at(place: usize) {
     at = text::put_bytes(&mut line, at, b":");
     at = put_number(&mut line, at, wire::answer_number(a) as u64);
     at = put_row(&mut line, at, &buf);
-    show(&mut line, at);
+    show(rt, &mut line, at)
 }
 
 // The first bytes of seven, as a pair.
-fn pair_of(length: usize) {
+fn pair_of(rt: &impl Print, length: usize) -> io::Result<()> {
     let mut line = [0u8; 100];
     let seven = [0x42u8, 0x48, 0x00, 0x00, 0x80, 0x99, 0x77];
     if length > 7 {
-        return;
+        return Ok(());
     }
     let mut at = text::put_bytes(&mut line, 0, b"pair of");
     at = put_number(&mut line, at, length as u64);
     at = put_received(&mut line, at, wire::pair_of(&seven[0..length]));
-    show(&mut line, at);
+    show(rt, &mut line, at)
 }
 
 // What two bytes stand for.
@@ -213,7 +209,7 @@ fn put_discrete_received(line: &mut [u8], at: usize, r: DiscreteReceived) -> usi
 }
 
 // A discrete value put into two bytes and read again.
-fn discrete_there_and_back(value: u8, status: u8) {
+fn discrete_there_and_back(rt: &impl Print, value: u8, status: u8) -> io::Result<()> {
     let mut line = [0u8; 100];
     let mut two = [0u8; 2];
     wire::put_discrete(&mut two, 0, Discrete { value, status });
@@ -223,11 +219,11 @@ fn discrete_there_and_back(value: u8, status: u8) {
     at = text::put_bytes(&mut line, at, b":");
     at = put_row(&mut line, at, &two);
     at = put_discrete_received(&mut line, at, wire::discrete_of(&two));
-    show(&mut line, at);
+    show(rt, &mut line, at)
 }
 
 // A discrete value put at a place of four bytes.
-fn put_discrete_at(place: usize) {
+fn put_discrete_at(rt: &impl Print, place: usize) -> io::Result<()> {
     let mut line = [0u8; 100];
     let mut buf = [0xA5u8; 4];
     let a = wire::put_discrete(
@@ -243,20 +239,20 @@ fn put_discrete_at(place: usize) {
     at = text::put_bytes(&mut line, at, b":");
     at = put_number(&mut line, at, wire::answer_number(a) as u64);
     at = put_row(&mut line, at, &buf);
-    show(&mut line, at);
+    show(rt, &mut line, at)
 }
 
 // The first bytes of five, as a discrete value.
-fn discrete_of(length: usize) {
+fn discrete_of(rt: &impl Print, length: usize) -> io::Result<()> {
     let mut line = [0u8; 100];
     let five = [0x01u8, 0x80, 0x99, 0x77, 0x55];
     if length > 5 {
-        return;
+        return Ok(());
     }
     let mut at = text::put_bytes(&mut line, 0, b"discrete of");
     at = put_number(&mut line, at, length as u64);
     at = put_discrete_received(&mut line, at, wire::discrete_of(&five[0..length]));
-    show(&mut line, at);
+    show(rt, &mut line, at)
 }
 
 // The image in the first bytes of a buffer.
@@ -288,7 +284,7 @@ fn image_in(buf: &mut [u8], length: usize) -> Answer {
 }
 
 // The image in the first bytes of twenty-two, of which all are shown.
-fn image(length: usize) {
+fn image(rt: &impl Print, length: usize) -> io::Result<()> {
     let mut line = [0u8; 100];
     let mut buf = [0xA5u8; 22];
     let a = image_in(&mut buf, length);
@@ -297,17 +293,17 @@ fn image(length: usize) {
     at = text::put_bytes(&mut line, at, b":");
     at = put_number(&mut line, at, wire::answer_number(a) as u64);
     at = put_row(&mut line, at, &buf);
-    show(&mut line, at);
+    show(rt, &mut line, at)
 }
 
 // One block's part of the first bytes of twenty that hold 0, 1, 2, ..
-fn part(block: u8, length: usize) {
+fn part(rt: &impl Print, block: u8, length: usize) -> io::Result<()> {
     let mut line = [0u8; 100];
     let buf = [
         0u8, 1, 2, 3, 4, 5, 6, 7, 8, 9, 10, 11, 12, 13, 14, 15, 16, 17, 18, 19,
     ];
     if length > 20 {
-        return;
+        return Ok(());
     }
     let mut at = text::put_bytes(&mut line, 0, b"part");
     at = put_number(&mut line, at, block as u64);
@@ -315,22 +311,18 @@ fn part(block: u8, length: usize) {
     at = put_number(&mut line, at, length as u64);
     at = text::put_bytes(&mut line, at, b":");
     at = put_row(&mut line, at, wire::part(&buf[0..length], block));
-    show(&mut line, at);
+    show(rt, &mut line, at)
 }
 
-fn parts(length: usize) {
-    part(0, length);
-    part(1, length);
-    part(2, length);
-    part(3, length);
-    part(4, length);
-    part(5, length);
-    part(6, length);
-    part(255, length);
+fn parts(rt: &impl Print, length: usize) -> io::Result<()> {
+    for block in [0, 1, 2, 3, 4, 5, 6, 255] {
+        part(rt, block, length)?;
+    }
+    Ok(())
 }
 
 // The numbers of the refusals, after that of an accepted call.
-fn refusals() {
+fn refusals(rt: &impl Print) -> io::Result<()> {
     let mut line = [0u8; 60];
     let mut at = text::put_bytes(&mut line, 0, b"answers");
     at = put_number(&mut line, at, wire::answer_number(Answer::Accepted) as u64);
@@ -384,103 +376,84 @@ fn refusals() {
         at,
         wire::answer_number(Answer::Refused(Refusal::NotRising)) as u64,
     );
-    show(&mut line, at);
+    show(rt, &mut line, at)
 }
 
-fn all_parts() {
-    let mut row = 0;
-    while row < 16 {
-        parts_row(row);
-        row += 1;
+fn all_parts(rt: &impl Print) -> io::Result<()> {
+    for row in 0..16 {
+        parts_row(rt, row)?;
     }
+    Ok(())
 }
 
-fn statuses() {
+fn statuses(rt: &impl Print) -> io::Result<()> {
     let mut line = [0u8; 60];
     let mut at = text::put_bytes(&mut line, 0, b"agree");
     at = put_number(&mut line, at, agreeing());
-    show(&mut line, at);
-    numbers(0x00);
-    numbers(0x1F);
-    numbers(0x4C);
-    numbers(0x4E);
-    numbers(0x80);
-    numbers(0x89);
-    numbers(0x8E);
-    numbers(0xA0);
-    numbers(0xA3);
-    numbers(0xBC);
-    numbers(0xC0);
-    numbers(0xFF);
-    built(3);
-    built(15);
-    built(16);
-    built(255);
+    show(rt, &mut line, at)?;
+    for status in [
+        0x00, 0x1F, 0x4C, 0x4E, 0x80, 0x89, 0x8E, 0xA0, 0xA3, 0xBC, 0xC0, 0xFF,
+    ] {
+        numbers(rt, status)?;
+    }
+    for sub_status in [3, 15, 16, 255] {
+        built(rt, sub_status)?;
+    }
+    Ok(())
 }
 
 // Zeros, subnormals, the ends of the finite numbers, infinities and patterns of NaN.
-fn values() {
-    there_and_back(0x0000_0000, 0x00);
-    there_and_back(0x8000_0000, 0x80);
-    there_and_back(0x0000_0001, 0x4C);
-    there_and_back(0x807F_FFFF, 0x1F);
-    there_and_back(0x0080_0000, 0x8E);
-    there_and_back(0x4248_0000, 0x80);
-    there_and_back(0x7F7F_FFFF, 0xFF);
-    there_and_back(0x7F80_0000, 0x10);
-    there_and_back(0xFF80_0000, 0x04);
-    there_and_back(0x7F80_0001, 0xC0);
-    there_and_back(0x7FC0_0000, 0xA0);
-    there_and_back(0xFFFF_FFFF, 0x01);
-    there_and_back(0x0102_0304, 0x05);
+fn values(rt: &impl Print) -> io::Result<()> {
+    for (bits, status) in [
+        (0x0000_0000, 0x00),
+        (0x8000_0000, 0x80),
+        (0x0000_0001, 0x4C),
+        (0x807F_FFFF, 0x1F),
+        (0x0080_0000, 0x8E),
+        (0x4248_0000, 0x80),
+        (0x7F7F_FFFF, 0xFF),
+        (0x7F80_0000, 0x10),
+        (0xFF80_0000, 0x04),
+        (0x7F80_0001, 0xC0),
+        (0x7FC0_0000, 0xA0),
+        (0xFFFF_FFFF, 0x01),
+        (0x0102_0304, 0x05),
+    ] {
+        there_and_back(rt, bits, status)?;
+    }
+    Ok(())
 }
 
 // Values and statuses, places and lengths at their ends.
-fn discretes() {
-    discrete_there_and_back(0, 0x80);
-    discrete_there_and_back(1, 0xC0);
-    discrete_there_and_back(7, 0x04);
-    discrete_there_and_back(255, 0xFF);
-    put_discrete_at(0);
-    put_discrete_at(1);
-    put_discrete_at(2);
-    put_discrete_at(3);
-    put_discrete_at(4);
-    put_discrete_at(18446744073709551614);
-    put_discrete_at(18446744073709551615);
-    discrete_of(0);
-    discrete_of(1);
-    discrete_of(2);
-    discrete_of(3);
-    discrete_of(5);
+fn discretes(rt: &impl Print) -> io::Result<()> {
+    for (value, status) in [(0, 0x80), (1, 0xC0), (7, 0x04), (255, 0xFF)] {
+        discrete_there_and_back(rt, value, status)?;
+    }
+    for place in [0, 1, 2, 3, 4, 18446744073709551614, 18446744073709551615] {
+        put_discrete_at(rt, place)?;
+    }
+    for length in [0, 1, 2, 3, 5] {
+        discrete_of(rt, length)?;
+    }
+    Ok(())
 }
 
-fn main() {
-    all_parts();
-    statuses();
-    values();
-    put_at(0);
-    put_at(1);
-    put_at(3);
-    put_at(4);
-    put_at(8);
-    put_at(9);
-    put_at(18446744073709551611);
-    put_at(18446744073709551615);
-    pair_of(0);
-    pair_of(4);
-    pair_of(5);
-    pair_of(6);
-    discretes();
-    image(0);
-    image(15);
-    image(18);
-    image(19);
-    image(20);
-    image(22);
-    parts(15);
-    parts(18);
-    parts(19);
-    parts(20);
-    refusals();
+fn main(rt: HostRuntime) -> io::Result<()> {
+    all_parts(&rt)?;
+    statuses(&rt)?;
+    values(&rt)?;
+    for place in [0, 1, 3, 4, 8, 9, 18446744073709551611, 18446744073709551615] {
+        put_at(&rt, place)?;
+    }
+    for length in [0, 4, 5, 6] {
+        pair_of(&rt, length)?;
+    }
+    discretes(&rt)?;
+    for length in [0, 15, 18, 19, 20, 22] {
+        image(&rt, length)?;
+    }
+    for length in [15, 18, 19, 20] {
+        parts(&rt, length)?;
+    }
+    refusals(&rt)
 }
