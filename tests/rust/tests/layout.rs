@@ -50,7 +50,8 @@ fn structs_of_the_source() -> Structs {
     let mut structs = Structs::new();
     for name in CRATES {
         let source = file(&format!("crates/{name}/src/lib.rt"));
-        let code: Vec<&str> = source.lines().filter(|line| !line.trim_start().starts_with("//")).collect();
+        let is_code = |line: &&str| !line.trim_start().starts_with("//") && !line.starts_with("#[derive(");
+        let code: Vec<&str> = source.lines().filter(is_code).collect();
         let code = code.join("\n");
         let mut rest = &code[..];
         while let Some((title, after)) = between(rest, "#[repr(C)]\npub struct ", " {\n") {
