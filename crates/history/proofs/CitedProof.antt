@@ -27,6 +27,11 @@ unfolding Whole.limit
 whole-cut n (pos a) = refl
 whole-cut n (negsuc a) = refl
 
+-- with no operation opened: another factor differs as a number, before anything is computed
+thousandth-is : (x : Float) → thousandths_of x ≡ to_signed 63 (mul binary32 x (of_int binary32 (pos 1000)))
+unfolding thousandths_of
+thousandth-is x = refl
+
 bits-cleared : (z : ℤ) → Whole.highest24ℤ z ≡ cleared_of z
 unfolding Whole.highest24ℤ Whole.highest_bits
 bits-cleared (pos m) = refl
@@ -67,7 +72,7 @@ cited-points = record {
   place = λ low high f. refl;
   increment = λ rate. whole-cut (10 ^ 9) (to_signed 63 (mul binary32 rate (of_int binary32 (pos 100))));
   sum = λ total z. whole-cut (10 ^ 12) (total +ℤ z);
-  thousandth = λ x. refl;
+  thousandth = thousandth-is;
   value = λ total. ap (λ (z : ℤ). div binary32 (of_int binary32 z) (of_int binary32 (pos 1000))) (bits-cleared total);
   single = λ n x. (refl, refl);
   status = λ n. (refl, refl, refl);
