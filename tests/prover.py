@@ -77,6 +77,8 @@ RESTS = re.compile(r"depends? on `([^`]+)`, which was (?:rejected|not admitted),
 ADMITTED = re.compile(r"(?:was|is) not admitted")
 # A proof that cites what is not there any more: it shows nothing about the contract.
 UNNAMED = re.compile(r"has no field `|can be named from here|has no `|not in scope|is no name|missing field\(s\) of")
+# A limit of the prover's own, at which it stops and can tell nothing; a tactic that gives up leaves a goal open instead.
+LIMITS = re.compile(r"the step limit|the memory limit|a resource limit|(?:antt|kernel|elaboration) ran out of|ran out of (?:the )?(?:steps|memory|stack)|term arena is full")
 # A text that cannot be read as the proof language.
 UNREAD = re.compile(r"is not in scope|has no field|is no name|operand is missing|expected the end|cannot continue")
 # The front end's errors have a code, as error[unknown-name]; antt's have none.
@@ -86,7 +88,7 @@ PROOF_FILES = ("Answers.antt", "Invariants.antt", "Proof.antt")
 
 
 class Error:
-    """One error: where it is, the declaration that it names, and its ground: code, unread, rests, unnamed or fact."""
+    """One error: where it is, the declaration that it names, and its ground: code, limit, unread, rests, unnamed or fact."""
 
     def __init__(self, match, more):
         self.crate, self.file, self.line, self.column = match["crate"], match["file"], int(match["line"]), int(match["column"])
@@ -97,12 +99,16 @@ class Error:
         # what antt cannot read of a contract or a definition, and a fact of these that it refuses
         stated, said = parts[0] in ("src", "specs"), re.sub(r"`[^`]*`", "", text)
         rests = RESTS.search(text)
+        # the declaration on which others rest
+        self.on = rests[1] if rests else None
         # what is refused by this error, and all that is refused or not checked as far as it says
         self.refused = {name[1]} if name else {rests[1], *re.findall(r"(?:^|[,)] |and )([^\s,]+)(?= \(via|,|$| and)", rests[2])} if rests else set()
         if match["code"]:
             self.ground = "code"
         elif rests:
             self.ground = "rests"
+        elif LIMITS.search(re.sub(r"`[^`]*`", "", match["text"])):
+            self.ground = "limit"
         elif stated and (not name or UNREAD.search(said)):
             self.ground = "unread"
         else:
@@ -126,6 +132,7 @@ class Report:
         self.log = log.replace(folder + "/", "")
         lines = self.log.splitlines() or ["nothing was said"]
         self.proved = status == 0 and lines[-1].startswith("logic=proved")
+        self.undecided = lines[-1].startswith("rattle: no verdict")
         self.refused = status == 1 and lines[-1].startswith("logic=not-proved")
         self.functions = dict(re.findall(r"^fn (\S+): (.*)$", self.log, re.M))
         self.errors = []
@@ -142,7 +149,10 @@ class Report:
         return next((line for line in lines if "error" in line), lines[-1])
 
     def facts(self, function=None):
-        """Where a fact fails: an error of a proof, or a goal that the proof which rattle makes itself does not close."""
+        """Where a fact fails: an error of a proof, or a goal that the proof which rattle makes itself does not close. A check that
+        comes to no verdict, as at a limit, refuses nothing."""
+        if not self.refused:
+            return []
         places = [error.place() for error in self.errors if error.ground == "fact" and function in (None, error.function)]
         for name, verdict in self.functions.items():
             open_goals = OPEN.search(verdict)
@@ -158,6 +168,14 @@ class Report:
         """The errors of proofs that do not fit."""
         return [error for error in self.errors if error.ground == "unnamed" and function in (None, error.function)]
 
+    def refused_names(self):
+        """The declarations that are refused or rest on refused ones, as far as it says; not those that met a limit or rest on such."""
+        limited, more = {error.declaration for error in self.errors if error.ground == "limit"}, True
+        while more:
+            more = {name for error in self.errors if error.on in limited for name in error.refused} - limited
+            limited |= more
+        return {name for error in self.errors if error.ground != "limit" and error.on not in limited for name in error.refused}
+
     def why_not(self, unnamed=None):
         """Why a log without a failing fact shows nothing."""
         if self.proved:
@@ -165,10 +183,15 @@ class Report:
         for error in self.errors:
             if error.ground == "unread":
                 return "it cannot be read: " + error.place() + " " + error.text.partition("\n")[0]
+        limit = next((", at " + error.place() for error in self.errors if error.ground == "limit"), "")
+        if self.undecided:
+            return "no verdict" + (": a limit" + limit if limit else ": " + self.last())
         if not self.refused:
             return "it does not reach the prover: " + self.last()
         for error in unnamed or self.unnamed():
             return "no fact fails: the proof does not fit, at " + error.place()
+        if limit:
+            return "no fact fails: a limit" + limit
         return "no fact fails: only callers are refused"
 
 

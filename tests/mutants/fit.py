@@ -55,8 +55,9 @@ def renamed(proof, names):
     return re.sub(r"(?<![\w'-])(%s)(?![\w'-])" % "|".join(map(re.escape, sorted(names, key=len, reverse=True))), lambda match: names[match[1]], proof) if names else proof
 
 
-def by_new_names(worker, top, sources, texts, function, report):
-    """The report on a change with the function's proof by the names of the changed text; the given report if no name is another's."""
+def by_new_names(worker, top, sources, texts, function, report, whole=False):
+    """The report on a change with the function's proof by the names of the changed text; the given report if no name is another's.
+    `whole`: the names are mended further where a fact fails and a name is still not there."""
     for _ in range(TURNS):
         mended = {}
         for path in files_of(function):
@@ -66,7 +67,7 @@ def by_new_names(worker, top, sources, texts, function, report):
             return report
         texts = {**texts, **mended}
         report = worker.check(top, sources, texts)
-        if report.proved or report.facts():
+        if report.proved or report.facts() and not (whole and report.unnamed(function)):
             return report
     return report
 
