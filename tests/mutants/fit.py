@@ -15,7 +15,7 @@ import source
 
 TURNS = 8  # how often a proof's names are mended
 # A step of a proof that the record at hand does not have, with those that it may be now.
-NO_FIELD = re.compile(r"record `[^`]*` has no field `([^`]+)`(?: \(nearest: ([^)]+)\))?")
+NO_FIELD = re.compile(r"record `[^`]*`(?: \(nearest: (?P<before>[^)]+)\))?\s+has no field `(?P<step>[^`]+)`(?: \(nearest: (?P<after>[^)]+)\))?")
 # A goal that rattle does not ask for.
 NO_GOAL = re.compile(r"module `[^`]*\.(?:Goals|Given)` has no `([^`]+)`")
 ASKED = re.compile(r"^help: `(?:Goals|Given)` has no .*?; rattle asks for ([^;]*)", re.M)
@@ -44,10 +44,10 @@ def new_names(proof, report, path):
         if goal:
             open_ones = [name for name in dict.fromkeys(asked) if name not in answered and name not in names.values()]
             names.update({goal[1]: name for name in difflib.get_close_matches(goal[1], open_ones, 1, 0.5)})
-        elif step and step[2]:
-            near = [name.strip(" .") for name in step[2].split(",")]
-            by_goal = [step[1].replace(old.partition("-then-")[2], new.partition("-then-")[2]) for old, new in names.items() if old.partition("-then-")[2]]
-            names.setdefault(step[1], next((name for name in by_goal if name in near), near[0]))
+        elif step and (step["before"] or step["after"]):
+            near = [name.strip(" .") for name in (step["before"] or step["after"]).split(",")]
+            by_goal = [step["step"].replace(old.partition("-then-")[2], new.partition("-then-")[2]) for old, new in names.items() if old.partition("-then-")[2]]
+            names.setdefault(step["step"], next((name for name in by_goal if name in near), near[0]))
     return names
 
 
