@@ -87,6 +87,16 @@ ERROR = re.compile(r"(?P<crate>\w+)/(?P<file>\S+?):(?P<line>\d+):(?P<column>\d+)
 PROOF_FILES = ("Answers.antt", "Invariants.antt", "Proof.antt")
 
 
+def is_of(name, function):
+    """Whether what a report names is a function, the measure by which it calls itself, or a closure in it: `ain::fn::Table::sum::map`
+    is the one that `ain::Table::sum` gives to `map`."""
+    if name is None:
+        return False
+    named = re.sub(r"(?<=::)\+(?=\w+$)", "", name)
+    plain = named.replace("::fn::", "::", 1)
+    return named == function or plain != named and plain.startswith(function + "::")
+
+
 class Error:
     """One error: where it is, the declaration that it names, and its ground: code, limit, unread, rests, unnamed or fact."""
 
@@ -153,10 +163,11 @@ class Report:
         comes to no verdict, as at a limit, refuses nothing."""
         if not self.refused:
             return []
-        places = [error.place() for error in self.errors if error.ground == "fact" and function in (None, error.function)]
+        wanted = [error for error in self.errors if error.ground == "fact" and (function is None or is_of(error.function, function))]
+        places = [error.place() for error in wanted]
         for name, verdict in self.functions.items():
             open_goals = OPEN.search(verdict)
-            if open_goals and function in (None, name):
+            if open_goals and (function is None or is_of(name, function)):
                 places.append("%s, goal %s" % (name, open_goals[1].partition(";")[0].replace("`", "")))
         return places
 
@@ -166,7 +177,7 @@ class Report:
 
     def unnamed(self, function=None):
         """The errors of proofs that do not fit."""
-        return [error for error in self.errors if error.ground == "unnamed" and function in (None, error.function)]
+        return [error for error in self.errors if error.ground == "unnamed" and (function is None or is_of(error.function, function))]
 
     def refused_names(self):
         """The declarations that are refused or rest on refused ones, as far as it says; not those that met a limit or rest on such."""

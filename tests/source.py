@@ -29,8 +29,15 @@ def module_of(path):
     return "" if parts in (["lib"], ["main"]) else "::".join(part for part in parts if part != "mod")
 
 
+def functions_of(crate):
+    """The functions of a crate, as the prover names them."""
+    files = places.sources(prover.ROOT, crate).values()
+    return ["%s::%s" % (crate, function.name) for file in files for function in file.functions if function.body_start is not None]
+
+
 def function_at(path, start, end):
-    """The function, as `crate::module::name`, whose body holds a place whole; None if there is none."""
+    """The function, as the prover names it (`crate::module::name`, `crate::Type::name` of a method, `crate::TypeTrait::name` of a
+    trait's), whose body holds a place whole; None if there is none."""
     crate, part = path.split("/")[:2]
     if part == "src":
         for function in places.functions(text_of(path), module_of(path)):
@@ -40,9 +47,13 @@ def function_at(path, start, end):
 
 
 def proof_of(path):
-    """The function whose proof a file is, as `crate::module::name`; None for another file."""
+    """The function whose proof a file is, as `crate::module::name`, also where it is of a closure in it; None for another file."""
     crate, *parts = path.split("/")
-    return "::".join([crate] + parts[1:-1]) if parts[0] == "proofs" and parts[-1] in prover.PROOF_FILES else None
+    if parts[0] != "proofs" or parts[-1] not in prover.PROOF_FILES:
+        return None
+    name = "::".join([crate] + parts[1:-1])
+    of = [function for function in functions_of(crate) if prover.is_of(name, function)]
+    return max(of, key=len) if of else name
 
 
 def difference(path, text):

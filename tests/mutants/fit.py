@@ -7,6 +7,7 @@ arm's body for an arm, what stood there for an assignment); and the answers that
 """
 
 import difflib
+import glob
 import os
 import re
 
@@ -24,10 +25,13 @@ ANSWER = re.compile(r"(?:(?:pub|abbrev|unfoldable) )*(\S+) : goal\.(\S+)")
 
 
 def files_of(function):
-    """The files of a function's proof that are there, as `crate/proofs/..`."""
+    """The files of a function's proof that are there, as `crate/proofs/..`: its own, then those of its measure and its closures."""
     crate, *path = function.split("::")
-    names = ["%s/proofs/%s/%s" % (crate, "/".join(path), file) for file in prover.PROOF_FILES]
-    return [name for name in names if os.path.isfile(source.place(name))]
+    folders = ["/".join(path), "/".join(path[:-1] + ["+" + path[-1]])]
+    folders += ["/".join(path[:at] + ["fn"] + path[at:]) + "/**" for at in range(len(path))]
+    top = source.place(crate + "/proofs/")
+    names = [name for folder in folders for file in prover.PROOF_FILES for name in sorted(glob.glob(top + folder + "/" + file, recursive=True))]
+    return ["%s/proofs/%s" % (crate, name[len(top) :]) for name in dict.fromkeys(names)]
 
 
 def errors_in(report, path):
@@ -94,17 +98,19 @@ def tries(worker, crate, mutant):
     paths = [path for path in files_of(function) if path.endswith("/Answers.antt")]
     if not paths:
         return
-    bare = worker.check(crate.name, sources, {**texts, paths[0]: None})
+    bare = worker.check(crate.name, sources, {**texts, **dict.fromkeys(paths)})
     if bare.proved:
         yield "without the function's answers", bare
     report = by_new_names(worker, crate.name, sources, texts, function, report)
     yield "by the names of the mutant", report
-    proof = source.text_of(paths[0])
+    proofs = {path: source.text_of(path) for path in paths}
     for _ in range(TURNS):
-        errors = errors_in(report, paths[0])
-        fewer = "\n".join(without(proof.split("\n"), errors[0].line - 1)) if errors else proof
-        if fewer == proof:
+        fewer = {}
+        for path, proof in proofs.items():
+            errors = errors_in(report, path)
+            fewer[path] = "\n".join(without(proof.split("\n"), errors[0].line - 1)) if errors else proof
+        if fewer == proofs:
             return
-        proof = fewer
-        report = worker.check(crate.name, sources, {**texts, paths[0]: proof})
+        proofs = fewer
+        report = worker.check(crate.name, sources, {**texts, **proofs})
         yield "with the answers that fit", report

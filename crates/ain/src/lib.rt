@@ -63,7 +63,7 @@ fn measured(kind: u32, table: Table, x: f32) -> f32
 {
     let by_table = kind == 1;
     if by_table {
-        return linearisation::linearised(table, x);
+        return table.value_at(x);
     }
     x
 }
@@ -71,8 +71,8 @@ fn measured(kind: u32, table: Table, x: f32) -> f32
 fn scaled(x: f32, pv: Scale, out: Scale) -> f32
     ensures { result ≡ scaled_of pv out x }
 {
-    let f = scaling::fraction(x, pv);
-    scaling::at_fraction(f, out)
+    let f = pv.fraction(x);
+    out.at_fraction(f)
 }
 
 fn filter(time: f32, old: Kept, scaled: f32) -> f32

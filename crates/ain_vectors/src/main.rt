@@ -60,7 +60,7 @@ fn step(
 }
 
 fn tick_bits(rt: &impl Print, s: Settings, st: State, bits: u32, status: u8) -> io::Result<State> {
-    step(rt, s, linearisation::none(), st, false, bits, status)
+    step(rt, s, Table::default(), st, false, bits, status)
 }
 
 fn tick(rt: &impl Print, s: Settings, st: State, x: f32, status: u8) -> io::Result<State> {
@@ -71,7 +71,7 @@ fn fault_tick(rt: &impl Print, s: Settings, st: State, x: f32, status: u8) -> io
     step(
         rt,
         s,
-        linearisation::none(),
+        Table::default(),
         st,
         true,
         numbers::floats::bits_of(x),
@@ -631,8 +631,7 @@ fn warm_start(rt: &impl Print) -> io::Result<()> {
 }
 
 fn table_of(bytes: &[u8]) -> Table {
-    let loaded = linearisation::table_of(bytes);
-    loaded.table
+    Table::try_from(bytes).unwrap_or_default()
 }
 
 // Pairs 0 0, 1 10, 4 70, 7 100.

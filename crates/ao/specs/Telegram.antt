@@ -3,13 +3,12 @@ use Rattle.std.specs.Prelude.{ℕ, cond, List, eqb, ltb}
 use Rattle.std.specs.Float.Ieee.Scale.{finite}
 use Rattle.numbers.specs.Floats.{float_of}
 use Rattle.wire.specs.declared.Pair.{Pair}
-use Rattle.wire.specs.declared.Received.{Received}
 use Rattle.wire.specs.Bytes.{pair_of}
 use Rattle.ao.specs.declared.Input.{Input}
 use Rattle.ao.specs.declared.State.{State}
 use Rattle.ao.specs.declared.Taken.{Taken}
 use Rattle.blocks.specs.FailSafe.{after_telegram}
-use Rattle.blocks.specs.Output.{ReceivedOf, TakenOf, telegram_by}
+use Rattle.blocks.specs.Output.{TakenOf, telegram_by}
 use Rattle.ao.specs.State.{input_of, input_from}
 
 -- O1: an input after a telegram on it, by whether its value is finite
@@ -24,14 +23,10 @@ taken_on state input pair =
     (record { out = state.out; mode = state.mode; operator = state.operator; sp = input_after state.sp pair; rcas_in = state.rcas_in })
     (record { out = state.out; mode = state.mode; operator = state.operator; sp = state.sp; rcas_in = input_after state.rcas_in pair })
 
--- what bytes stand for, and a state with the answer, as the rules have them and as the code does
-abbrev pub received : Received → ReceivedOf Pair
-received (Received.Value pair) = ReceivedOf.accepted pair
-received (Received.Refused r) = ReceivedOf.refused r
-
+-- a state with the answer, as the rules have it and as the code does
 abbrev pub taken_from : TakenOf State → Taken
 taken_from t = record { state = t.state; answer = t.answer }
 
 -- F2, F9, F10: AO lacks the inputs over 1
 unfoldable pub telegram_of : State → ℕ → List ℕ → Taken
-telegram_of state input bytes = taken_from (telegram_by (ltb 1 input) (taken_on state input) state (received (pair_of bytes)))
+telegram_of state input bytes = taken_from (telegram_by (ltb 1 input) (taken_on state input) state (pair_of bytes))

@@ -12,7 +12,7 @@ ghost use Rattle.ao.specs.Code.{rule_case, given_of};
 use blocks::Class;
 use numbers::floats::{bits_of, float_of, is_finite};
 use scaling::Scale;
-use wire::{Answer, Pair, Received, Refusal};
+use wire::{Pair, Refusal};
 
 // The stored parameters that the tick goes by.
 #[repr(C)]
@@ -60,7 +60,7 @@ pub enum Order {
 #[derive(Clone, Copy)]
 pub struct Taken {
     pub state: State,
-    pub answer: Answer,
+    pub answer: Result<(), Refusal>,
 }
 
 #[derive(Clone, Copy)]
@@ -212,21 +212,17 @@ pub fn telegram(state: State, input: u8, bytes: &[u8]) -> Taken
     if unknown {
         return Taken {
             state,
-            answer: Answer::Refused(Refusal::NoSuchInput),
+            answer: Err(Refusal::NoSuchInput),
         };
     }
-    let received = wire::pair_of(bytes);
-    match received {
-        Received::Value(pair) => {
-            let state = taken_on(state, input, pair);
-            Taken {
-                state,
-                answer: Answer::Accepted,
-            }
-        }
-        Received::Refused(refusal) => Taken {
+    match Pair::try_from(bytes) {
+        Ok(pair) => Taken {
+            state: taken_on(state, input, pair),
+            answer: Ok(()),
+        },
+        Err(refusal) => Taken {
             state,
-            answer: Answer::Refused(refusal),
+            answer: Err(refusal),
         },
     }
 }
@@ -288,12 +284,12 @@ fn scaled_out(settings: Settings, w: f32) -> f32
     let pv_scale = settings.pv_scale;
     let out_scale = settings.out_scale;
     let increase_close = settings.increase_close;
-    let f = scaling::fraction(w, pv_scale);
+    let f = pv_scale.fraction(w);
     let closes = increase_close == 1;
     if closes {
-        return scaling::at_fraction(1.0 - f, out_scale);
+        return out_scale.at_fraction(1.0 - f);
     }
-    scaling::at_fraction(f, out_scale)
+    out_scale.at_fraction(f)
 }
 
 // A value with its status, and the order to go there.

@@ -119,9 +119,7 @@ fn sent(rt: &impl Print, b: Block, input: u8, bytes: &[u8]) -> io::Result<Block>
 
 // A telegram of five bytes, by the value's bits.
 fn telegram(rt: &impl Print, b: Block, input: u8, bits: u32, status: u8) -> io::Result<Block> {
-    let mut bytes = [0u8; 5];
-    wire::put(&mut bytes, 0, Pair { bits, status });
-    sent(rt, b, input, &bytes)
+    sent(rt, b, input, &Pair { bits, status }.to_bytes())
 }
 
 fn sp(rt: &impl Print, b: Block, value: f32, status: u8) -> io::Result<Block> {

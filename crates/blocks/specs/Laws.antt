@@ -1,14 +1,14 @@
 -- Laws that are the same for several blocks, over any kind of value. AIN and DI: when a tick is Good, and what holds of every value given. AO and DO: what a
 -- status byte says of a telegram, refused telegrams, the count that stops, the decision, and what holds of every value given. Discrete values: that INVERT
 -- leads to one. Assumes nothing.
-use Rattle.std.specs.Prelude.{◌≡◌, cond, not, ◌&&◌, ◌||◌, ℕ, ◌+◌, ◌≤◌, min, eqb, ltb}
+use Rattle.std.specs.Prelude.{◌≡◌, cond, not, ◌&&◌, ◌||◌, ℕ, ◌+◌, ◌≤◌, min, eqb, ltb, Result, Ok, Err}
 use Rattle.std.proofs.Math.Path.{refl}
 use Rattle.std.proofs.Common.{sym, ap, ◌∙◌, subst, true≢false, arith, eqb-true, lt-ltb, le-ltb, ltb-true, ltb-false}
 use Rattle.std.proofs.Math.Bool.{Bool, true, false}
 use Rattle.std.proofs.Math.Option.{Option, none, some}
 use Rattle.wire.specs.Status.{quality_of, sub_status_of}
 use Rattle.wire.specs.declared.Refusal.{Refusal}
-use Rattle.wire.specs.declared.Answer.{Answer}
+use Rattle.wire.specs.Refusal.{Answer}
 use Rattle.blocks.specs.declared.Class.{Class}
 use Rattle.blocks.specs.declared.Class.TheVariants.{Usable, InitiateFailSafe, Neither}
 use Rattle.blocks.specs.declared.Input.{Input}
@@ -18,7 +18,7 @@ use Rattle.blocks.specs.Discrete.{is_discrete, exchanged, inverted, discrete_val
 use Rattle.blocks.specs.InputBlock.{present, last_usable_or, scaled_or_old, fail_safe_pair}
 use Rattle.blocks.specs.FailSafe.{class_of, class_number, usable, initiates, InputOf, after_telegram, silence_after, fail_safe_acts, fail_safe_case, case_of}
 use Rattle.blocks.specs.FailSafe.{following, fallback, held, nothing_held, safety, rest, GivenOf, positioned, scaled_or, leads_to, by_mode}
-use Rattle.blocks.specs.Output.{ReceivedOf, accepted, refused, telegram_by}
+use Rattle.blocks.specs.Output.{telegram_by}
 
 -- ---- discrete values
 
@@ -197,20 +197,20 @@ module _ {A : Type 0} (status : ℕ) (finite_value : Bool) (value : A) (input : 
   after-other u i = rw (u, i)
 
 -- A refused telegram leaves the state as it was.
-pub refused-keeps : {S P : Type 0} (lacking : Bool) (take : P → S) (state : S) (received : ReceivedOf P) (r : Refusal)
-    → (telegram_by lacking take state received).answer ≡ Answer.Refused r → (telegram_by lacking take state received).state ≡ state
+pub refused-keeps : {S P : Type 0} (lacking : Bool) (take : P → S) (state : S) (received : Result P Refusal) (r : Refusal)
+    → (telegram_by lacking take state received).answer ≡ Err r → (telegram_by lacking take state received).state ≡ state
 unfolding telegram_by
 refused-keeps true take state received r h = refl
-refused-keeps false take state (refused q) r h = refl
-refused-keeps false take state (accepted p) r h = let z : ◌≡◌ {A = ℕ} 0 1 = cc in absurd (omega arith)
+refused-keeps false take state (Err q) r h = refl
+refused-keeps false take state (Ok p) r h = let z : ◌≡◌ {A = ℕ} 0 1 = cc in absurd (omega arith)
 
 -- Whatever holds of the state before a telegram, and after each pair taken, holds after it.
-pub telegram-holds : {S P : Type 0} (H : S → Type 0) (lacking : Bool) (take : P → S) (state : S) (received : ReceivedOf P) → H state
+pub telegram-holds : {S P : Type 0} (H : S → Type 0) (lacking : Bool) (take : P → S) (state : S) (received : Result P Refusal) → H state
     → ((pair : P) → H (take pair)) → H (telegram_by lacking take state received).state
 unfolding telegram_by
 telegram-holds H true take state received h t = h
-telegram-holds H false take state (refused q) h t = h
-telegram-holds H false take state (accepted pair) h t = t pair
+telegram-holds H false take state (Err q) h t = h
+telegram-holds H false take state (Ok pair) h t = t pair
 
 -- ---- the count
 

@@ -1,23 +1,20 @@
 -- Orders, answers and readings as the numbers that cross to C: document 01, Calls on the device and Refused calls, and document 02,
 -- request 3. Assumes nothing.
-use Rattle.std.specs.Prelude.{ℕ, cond, eqb}
+use Rattle.std.specs.Prelude.{ℕ, cond, eqb, Ok, Err, Result}
 use Rattle.numbers.specs.Floats.{float_of}
-use Rattle.wire.specs.Refusal.{refusal_number, answer_number}
+use Rattle.wire.specs.Refusal.{refusal_number}
 use Rattle.ao.specs.declared.Order.{Order}
 use Rattle.ao.specs.declared.Order.TheVariants.{Position, Safe, Rest}
 use Rattle.dout.specs.declared.Order.{Order as DiscreteOrder}
 use Rattle.dout.specs.declared.Order.TheVariants as Discrete
 use Rattle.device.specs.declared.Device.{Device}
-use Rattle.device.specs.declared.Answered.{Answered}
-use Rattle.device.specs.declared.Ticked.{Ticked}
-use Rattle.device.specs.declared.Reading.{Reading}
-use Rattle.device.specs.declared.Reading.TheVariants.{Read, Refused}
-use Rattle.device.specs.Calls.{warm_started}
-use Rattle.packing.specs.declared.Unpacked.{Unpacked}
+use Rattle.device.specs.Calls.{Ticked}
+use Rattle.device.specs.Read.{Reading}
+use Rattle.packing.specs.declared.NotUnpacked.{NotUnpacked}
+use Rattle.packing.specs.Packed.{not_unpacked_number}
 use Rattle.capi.specs.declared.OrderNumbers.{OrderNumbers}
 use Rattle.capi.specs.declared.DiscreteOrderNumbers.{DiscreteOrderNumbers}
 use Rattle.capi.specs.declared.OrdersNumbers.{OrdersNumbers}
-use Rattle.capi.specs.declared.AnsweredNumbers.{AnsweredNumbers}
 use Rattle.capi.specs.declared.ReadingNumbers.{ReadingNumbers}
 
 -- 2.0.0: what a header and an archive that belong together have
@@ -40,19 +37,17 @@ discrete_order_numbers Discrete.Rest = record { kind = 2; value = 0 }
 abbrev pub orders_numbers : Ticked → OrdersNumbers
 orders_numbers t = record { ao = order_numbers t.order; dout = discrete_order_numbers t.order_d }
 
--- F1: a refused call answers its number, an accepted one 0
-abbrev pub answered_numbers : Answered → AnsweredNumbers
-answered_numbers a = record { device = a.device; answer = answer_number a.answer }
-
 -- C8: a read's two words; 0 and 0 where it is refused
 abbrev pub reading_numbers : Reading → ReadingNumbers
-reading_numbers (Read w) = record { answer = 0; first = w.first; second = w.second }
-reading_numbers (Refused r) = record { answer = refusal_number r; first = 0; second = 0 }
+reading_numbers (Ok w) = record { answer = 0; first = w.first; second = w.second }
+reading_numbers (Err r) = record { answer = refusal_number r; first = 0; second = 0 }
 
--- C7: a warm start is never refused
-abbrev pub warmed_numbers : Device → AnsweredNumbers
-warmed_numbers d = record { device = warm_started d; answer = 0 }
+-- the number of what bytes are unpacked to: 0, or that of why they are no device
+abbrev pub unpacked_number : Result Device NotUnpacked → ℕ
+unpacked_number (Ok next) = 0
+unpacked_number (Err reason) = not_unpacked_number reason
 
 -- a device d after bytes were unpacked into it: the one they stand for, or d where they are refused
-abbrev pub unpacked_numbers : Device → Unpacked → AnsweredNumbers
-unpacked_numbers d u = record { device = cond (eqb u.answer 0) u.device d; answer = u.answer }
+abbrev pub unpacked_into : Device → Result Device NotUnpacked → Device
+unpacked_into d (Ok next) = next
+unpacked_into d (Err reason) = d

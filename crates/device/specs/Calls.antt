@@ -1,10 +1,10 @@
 -- The calls on a device, document 01, Calls on the device and Refused calls, and document 02, requests 1 and 3. A refused call leaves the device as it was.
 -- Assumes nothing.
-use Rattle.std.specs.Prelude.{ℕ, Bool, true, cond, List, ◌==◌, nat_lt}
+use Rattle.std.specs.Prelude.{ℕ, Bool, true, cond, List, ◌==◌, nat_lt, Result, Ok, Err}
 use Rattle.wire.specs.declared.Pair.{Pair}
 use Rattle.wire.specs.declared.Discrete.{Discrete}
-use Rattle.wire.specs.declared.Answer.{Answer}
-use Rattle.wire.specs.declared.Answer.TheVariants.{Accepted, Refused}
+use Rattle.wire.specs.Refusal.{granted, Answer}
+use Rattle.wire.specs.declared.Refusal.{Refusal}
 use Rattle.wire.specs.Refusal.{ground as number}
 use Rattle.linearisation.specs.declared.Table.{Table}
 use Rattle.linearisation.specs.Table.{has_table, loaded_of}
@@ -26,9 +26,20 @@ use Rattle.parameters.specs.declared.Standing.{Standing}
 use Rattle.parameters.specs.Refused.{ground}
 use Rattle.device.specs.declared.AinBlock.{AinBlock}
 use Rattle.device.specs.declared.Device.{Device}
-use Rattle.device.specs.declared.Answered.{Answered}
-use Rattle.device.specs.declared.Ticked.{Ticked}
+use Rattle.ao.specs.declared.Order.{Order}
+use Rattle.dout.specs.declared.Order.{Order as DiscreteOrder}
 use Rattle.device.specs.Stored.{rev_after, stored_in}
+
+-- a call's answer, and the device after it
+pub record Answered : Type 0 where
+  pub device : Device
+  pub answer : Answer
+
+-- a tick's drive orders, AO's and DO's, and the device after it
+pub record Ticked : Type 0 where
+  pub device : Device
+  pub order : Order
+  pub order_d : DiscreteOrder
 
 -- what stands: WRITE_LOCKING, the targets, and whether a table is loaded
 abbrev pub standing_of : Device → Standing
@@ -44,8 +55,8 @@ standing_of d = record {
 
 -- C6: a write, by its answer: an accepted one is stored
 abbrev pub write_by : Device → ℕ → ℕ → ℕ → ℕ → Answer → Answered
-write_by d block number a b Accepted = record { device = stored_in d block number a b; answer = Accepted }
-write_by d block number a b (Refused r) = record { device = d; answer = Refused r }
+write_by d block number a b (Ok u) = record { device = stored_in d block number a b; answer = granted }
+write_by d block number a b (Err r) = record { device = d; answer = Err r }
 
 unfoldable pub write_of : Device → ℕ → ℕ → ℕ → ℕ → Answered
 write_of d block number a b = write_by d block number a b (ground (standing_of d) block number a b)
@@ -124,18 +135,18 @@ abbrev pub tabled_by : AinBlock → Table → AinBlock
 tabled_by block table = record { settings = block.settings; state = block.state; st_rev = rev_after true block.st_rev; table = table }
 
 -- Q1.3, Q1.10: a load, by what its bytes stand for
-abbrev pub load_by : Device → Table → Answer → Answered
-load_by d table Accepted = record {
+abbrev pub load_by : Device → Result Table Refusal → Answered
+load_by d (Ok table) = record {
   device = record { write_locking = d.write_locking; ain = tabled_by d.ain table; tot = d.tot; ao = d.ao; di = d.di; dout = d.dout };
-  answer = Accepted;
+  answer = granted;
 }
-load_by d table (Refused r) = record { device = d; answer = Refused r }
+load_by d (Err r) = record { device = d; answer = Err r }
 
 -- Q1.10: refused while WRITE_LOCKING is 0 (4), before its bytes are looked at
 unfoldable pub load_of : Device → List ℕ → Answered
 load_of d bytes =
-    cond (d.write_locking == 0) (record { device = d; answer = Refused (number 4) })
-    (load_by d (loaded_of bytes).table (loaded_of bytes).answer)
+    cond (d.write_locking == 0) (record { device = d; answer = Err (number 4) })
+    (load_by d (loaded_of bytes))
 
 -- C7, R17, Q1.9: a warm start of every block; settings, WRITE_LOCKING, ST_REV and the table stay
 unfoldable pub warm_started : Device → Device

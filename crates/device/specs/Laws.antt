@@ -1,13 +1,12 @@
 -- Laws of calls and reads, document 01, Parameters and Refused calls: what an accepted write, a refused call, a tick, a telegram and a warm start
 -- do to what reads give. They hold of every device. Assumes nothing.
-use Rattle.std.specs.Prelude.{◌≡◌, ℕ, ◌^◌, ◌<◌, Bool, true, false, cond, not, ◌&&◌, ◌||◌, T, List, ◌==◌, nat_eq, nat_lt}
+use Rattle.std.specs.Prelude.{◌≡◌, ℕ, ◌^◌, ◌<◌, Bool, true, false, cond, not, ◌&&◌, ◌||◌, T, List, ◌==◌, nat_eq, nat_lt, Ok, Err}
 use Rattle.std.proofs.Math.Path.{refl, sym, ap}
 use Rattle.std.proofs.Common.{◌∙◌, subst, arith, eqb-true, eq-eqb, ne_eqb}
 use Rattle.std.specs.Float.Ieee.Fits.{and_l, and_r, and_i}
 use Rattle.wire.specs.declared.Pair.{Pair}
 use Rattle.wire.specs.declared.Discrete.{Discrete}
-use Rattle.wire.specs.declared.Answer.{Answer}
-use Rattle.wire.specs.declared.Answer.TheVariants.{Accepted, Refused}
+use Rattle.wire.specs.Refusal.{granted, Answer}
 use Rattle.wire.specs.declared.Refusal.{Refusal}
 use Rattle.wire.specs.Bytes.{pair_of, discrete_of}
 use Rattle.blocks.specs.Laws.{refused-keeps}
@@ -15,7 +14,7 @@ use Rattle.ain.specs.declared.State.{State as AinState}
 use Rattle.tot.specs.declared.State.{State as TotState}
 use Rattle.ao.specs.declared.State.{State as AoState}
 use Rattle.ao.specs.State.{operated_by}
-use Rattle.ao.specs.Telegram.{taken_on, received, telegram_of as ao_telegram}
+use Rattle.ao.specs.Telegram.{taken_on, telegram_of as ao_telegram}
 use Rattle.di.specs.declared.State.{State as DiState}
 use Rattle.dout.specs.declared.State.{State as DoutState}
 use Rattle.dout.specs.State.{operated_by as operated_dout}
@@ -36,9 +35,8 @@ use Rattle.device.specs.declared.AoBlock.{AoBlock}
 use Rattle.device.specs.declared.DiBlock.{DiBlock}
 use Rattle.device.specs.declared.DoutBlock.{DoutBlock}
 use Rattle.device.specs.declared.Device.{Device}
-use Rattle.device.specs.declared.Answered.{Answered}
-use Rattle.device.specs.declared.Reading.{Reading}
-use Rattle.device.specs.declared.Reading.TheVariants.{Read}
+use Rattle.device.specs.Calls.{Answered}
+use Rattle.device.specs.Read.{Reading}
 use Rattle.device.specs.Stored.{rev_after, ain_settings, tot_settings, ao_settings, di_settings, dout_settings}
 use Rattle.device.specs.Stored.{ain_written, tot_written, ao_written, di_written, dout_written, stored_in}
 use Rattle.device.specs.Read.{code, float, ends, ain_words, tot_words, ao_words, discrete_words, di_words, dout_words, words_of, read_by, read_of}
@@ -52,14 +50,14 @@ moves block number block' number' =
 -- What a write of two 32-bit words does to what reads give.
 pub record WriteLaw (d : Device) (block number a b : ℕ) (r : Answered) : Type 0 where
   -- P14a: a stored parameter reads as it was written, bit for bit
-  pub back : r.answer ≡ Accepted → T (stored_entry (entry_of block number)) → read_of r.device block number ≡ Read (words a b)
+  pub back : r.answer ≡ granted → T (stored_entry (entry_of block number)) → read_of r.device block number ≡ Ok (words a b)
   -- R11: ST_REV counts a static write, whatever it changes
-  pub counted : (rev : ℕ) → r.answer ≡ Accepted → 0 < block → read_of d block 1 ≡ Read (words rev 0)
-      → read_of r.device block 1 ≡ Read (words (rev_after (is_static block number) rev) 0)
+  pub counted : (rev : ℕ) → r.answer ≡ granted → 0 < block → read_of d block 1 ≡ Ok (words rev 0)
+      → read_of r.device block 1 ≡ Ok (words (rev_after (is_static block number) rev) 0)
   -- every other read is as before; a write of OUT or TOTAL moves none
   pub others : (block' number' : ℕ) → moves block number block' number' ≡ false → read_of r.device block' number' ≡ read_of d block' number'
   -- R3: a refused write leaves the device as it was
-  pub refused : (x : Refusal) → r.answer ≡ Refused x → r.device ≡ d
+  pub refused : (x : Refusal) → r.answer ≡ Err x → r.device ≡ d
   -- L3: no write moves an alarm
   pub alarms : r.device.ain.state.alarms ≡ d.ain.state.alarms
 
@@ -124,19 +122,19 @@ warm-start-keeps d =
 -- ---- telegrams
 
 -- A refused telegram leaves the device as it was.
-pub refused-telegram : (d : Device) (input : ℕ) (bytes : List ℕ) (r : Refusal) → (telegram_of d input bytes).answer ≡ Refused r
+pub refused-telegram : (d : Device) (input : ℕ) (bytes : List ℕ) (r : Refusal) → (telegram_of d input bytes).answer ≡ Err r
     → (telegram_of d input bytes).device ≡ d
 unfolding telegram_of ao_telegram dout_telegram
 refused-telegram d input bytes r = go (nat_lt 1 input)
   where
-    go : (b : Bool) → (cond b (dout_heard d (dout_telegram d.dout.state input bytes)) (ao_heard d (ao_telegram d.ao.state input bytes))).answer ≡ Refused r
+    go : (b : Bool) → (cond b (dout_heard d (dout_telegram d.dout.state input bytes)) (ao_heard d (ao_telegram d.ao.state input bytes))).answer ≡ Err r
         → (cond b (dout_heard d (dout_telegram d.dout.state input bytes)) (ao_heard d (ao_telegram d.ao.state input bytes))).device ≡ d
     go true h =
         ap (with_states d d.ain.state d.tot.state d.ao.state d.di.state)
-        (refused-keeps (Dout.lacking input) (Dout.taken_on d.dout.state input) d.dout.state (Dout.received (discrete_of bytes)) r h)
+        (refused-keeps (Dout.lacking input) (Dout.taken_on d.dout.state input) d.dout.state (discrete_of bytes) r h)
     go false h =
         ap (λ (x : AoState). with_states d d.ain.state d.tot.state x d.di.state d.dout.state)
-        (refused-keeps (nat_lt 1 input) (taken_on d.ao.state input) d.ao.state (received (pair_of bytes)) r h)
+        (refused-keeps (nat_lt 1 input) (taken_on d.ao.state input) d.ao.state (pair_of bytes) r h)
 
 -- ---- accepted writes
 
@@ -147,13 +145,13 @@ taken-shown (Parameter class allowed) a b f g t = shown-back (words a b) f g all
 
 -- the parameter written
 stored-shown : (d : Device) (a b block number : ℕ) → T (stored_entry (entry_of block number))
-    → read_of (stored_in d block number a b) block number ≡ Read (shown_by (entry_of block number) (words a b))
+    → read_of (stored_in d block number a b) block number ≡ Ok (shown_by (entry_of block number) (words a b))
 unfolding read_of words_of ain_words tot_words ao_words di_words dout_words discrete_words physical ain tot ao di dout discrete stored_in
     ain_written tot_written ao_written di_written dout_written ain_settings tot_settings ao_settings di_settings dout_settings
 stored-shown d a b =
     by_rows
     (λ number e. stored_entry e)
-    (λ block number e. read_by (words_of (stored_in d block number a b) block number) e ≡ Read (shown_by e (words a b)))
+    (λ block number e. read_by (words_of (stored_in d block number a b) block number) e ≡ Ok (shown_by e (words a b)))
     (λ block number t. absurd t)
     (λ block number t. absurd t)
     (refl also tt)
@@ -271,24 +269,24 @@ other-kept d block number a b n =
 
 -- ST_REV of the block written
 abbrev first_of : Reading → ℕ
-first_of (Read w) = w.first
-first_of (Reading.Refused r) = 0
+first_of (Ok w) = w.first
+first_of (Err r) = 0
 
-stored-counts : (d : Device) (number a b rev block : ℕ) → 0 < block → T (takes (entry_of block number) a b) → read_of d block 1 ≡ Read (words rev 0)
-    → read_of (stored_in d block number a b) block 1 ≡ Read (words (rev_after (is_static block number) rev) 0)
+stored-counts : (d : Device) (number a b rev block : ℕ) → 0 < block → T (takes (entry_of block number) a b) → read_of d block 1 ≡ Ok (words rev 0)
+    → read_of (stored_in d block number a b) block 1 ≡ Ok (words (rev_after (is_static block number) rev) 0)
 unfolding read_of words_of ain_words tot_words ao_words di_words dout_words discrete_words entry_of entry_in ain tot ao di dout discrete
     stored_in ain_written tot_written
     ao_written di_written dout_written
 stored-counts d number a b rev =
     by-block
-    (λ (block : ℕ). 0 < block → T (takes (entry_of block number) a b) → read_of d block 1 ≡ Read (words rev 0)
-    → read_of (stored_in d block number a b) block 1 ≡ Read (words (rev_after (is_static block number) rev) 0))
+    (λ (block : ℕ). 0 < block → T (takes (entry_of block number) a b) → read_of d block 1 ≡ Ok (words rev 0)
+    → read_of (stored_in d block number a b) block 1 ≡ Ok (words (rev_after (is_static block number) rev) 0))
     (λ h t e. absurd (omega arith))
-    (λ h t e. ap (λ (x : Reading). Read (words (rev_after (is_static 1 number) (first_of x)) 0)) e)
-    (λ h t e. ap (λ (x : Reading). Read (words (rev_after (is_static 2 number) (first_of x)) 0)) e)
-    (λ h t e. ap (λ (x : Reading). Read (words (rev_after (is_static 3 number) (first_of x)) 0)) e)
-    (λ h t e. ap (λ (x : Reading). Read (words (rev_after (is_static 4 number) (first_of x)) 0)) e)
-    (λ h t e. ap (λ (x : Reading). Read (words (rev_after (is_static 5 number) (first_of x)) 0)) e)
+    (λ h t e. ap (λ (x : Reading). Ok (words (rev_after (is_static 1 number) (first_of x)) 0)) e)
+    (λ h t e. ap (λ (x : Reading). Ok (words (rev_after (is_static 2 number) (first_of x)) 0)) e)
+    (λ h t e. ap (λ (x : Reading). Ok (words (rev_after (is_static 3 number) (first_of x)) 0)) e)
+    (λ h t e. ap (λ (x : Reading). Ok (words (rev_after (is_static 4 number) (first_of x)) 0)) e)
+    (λ h t e. ap (λ (x : Reading). Ok (words (rev_after (is_static 5 number) (first_of x)) 0)) e)
     (λ block h f t e. absurd (subst (λ (x : Entry). T (takes x a b)) (no_block block number h) t))
 
 unstored-by : (e : Entry) (number a b : ℕ) → T (takes e a b) → stored_entry e ≡ false → T (unstored number e)
@@ -317,8 +315,8 @@ module _ (d : Device) (block number a b : ℕ) where
   answered = go (ground (standing_of d) block number a b)
     where
       go : (g : Answer) → (write_by d block number a b g).answer ≡ g
-      go Accepted = refl
-      go (Refused s) = refl
+      go (Ok u) = refl
+      go (Err s) = refl
 
   -- the device is as it was, or it is an accepted write's
   by_answer : (P : Device → Type 0) → P d → (T (takes (entry_of block number) a b) → P (stored_in d block number a b)) → P (write_of d block number a b).device
@@ -326,10 +324,10 @@ module _ (d : Device) (block number a b : ℕ) where
   by_answer P refused accepted = go (ground (standing_of d) block number a b) refl
     where
       go : (g : Answer) → ground (standing_of d) block number a b ≡ g → P (write_by d block number a b g).device
-      go Accepted e = accepted (accepted-takes (standing_of d) block number a b e)
-      go (Refused s) e = refused
+      go (Ok u) e = accepted (accepted-takes (standing_of d) block number a b e)
+      go (Err s) e = refused
 
-  module _ (e : (write_of d block number a b).answer ≡ Accepted) where
+  module _ (e : (write_of d block number a b).answer ≡ granted) where
     taken : T (takes (entry_of block number) a b)
     taken = accepted-takes (standing_of d) block number a b (sym answered ∙ e)
 
@@ -337,7 +335,7 @@ module _ (d : Device) (block number a b : ℕ) where
     unfolding write_of
     stored = ap (λ (g : Answer). (write_by d block number a b g).device) (sym answered ∙ e)
 
-  left-as-was : (x : Refusal) → (write_of d block number a b).answer ≡ Refused x → (write_of d block number a b).device ≡ d
+  left-as-was : (x : Refusal) → (write_of d block number a b).answer ≡ Err x → (write_of d block number a b).device ≡ d
   unfolding write_of
   left-as-was x e = ap (λ (g : Answer). (write_by d block number a b g).device) (sym answered ∙ e)
 
@@ -353,7 +351,7 @@ module _ (d : Device) (block number a b : ℕ) where
   write-law f g = record {
     back =
         λ e t. ap (λ (x : Device). read_of x block number) (stored e) ∙ stored-shown d a b block number t
-        ∙ ap Read (taken-shown (entry_of block number) a b f g (taken e));
+        ∙ ap Ok (taken-shown (entry_of block number) a b f g (taken e));
     counted = λ rev e h r. ap (λ (x : Device). read_of x block 1) (stored e) ∙ stored-counts d number a b rev block h (taken e) r;
     others =
         λ block' number' m. by_answer (λ (x : Device). read_of x block' number' ≡ read_of d block' number') refl

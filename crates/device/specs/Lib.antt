@@ -4,3 +4,4 @@ pub mod Factory
 pub mod Read
 pub mod Calls
 pub mod Laws
+pub mod Blocks

@@ -1,9 +1,10 @@
 -- What reads give, document 01, Parameters and Refused calls, and document 02, request 3. Assumes nothing.
-use Rattle.std.specs.Prelude.{ℕ, ◌+◌, ◌*◌, Bool, true, false, cond, ◌==◌, Float}
+use Rattle.std.specs.Prelude.{ℕ, ◌+◌, ◌*◌, Bool, true, false, cond, ◌==◌, Float, Result, Ok, Err}
 use Rattle.numbers.specs.Floats.{bits_of}
 use Rattle.scaling.specs.declared.Scale.{Scale}
 use Rattle.wire.specs.declared.Pair.{Pair}
 use Rattle.wire.specs.declared.Discrete.{Discrete}
+use Rattle.wire.specs.declared.Refusal.{Refusal}
 use Rattle.wire.specs.Refusal.{ground}
 use Rattle.ain.specs.declared.Alarms.{Alarms}
 use Rattle.parameters.specs.declared.Words.{Words}
@@ -16,8 +17,6 @@ use Rattle.device.specs.declared.AoBlock.{AoBlock}
 use Rattle.device.specs.declared.DiBlock.{DiBlock}
 use Rattle.device.specs.declared.DoutBlock.{DoutBlock}
 use Rattle.device.specs.declared.Device.{Device}
-use Rattle.device.specs.declared.Reading.{Reading}
-use Rattle.device.specs.declared.Reading.TheVariants.{Read, Refused}
 
 -- P7: a parameter of one word reads with 0 as the other
 abbrev pub code : ℕ → Words
@@ -119,11 +118,15 @@ words_of d block number =
     (cond (block == 3) (ao_words d.ao number)
     (cond (block == 4) (di_words d.di number) (dout_words d.dout number)))))
 
+-- P7, F1: what a read answers: two words, or the ground of its refusal
+abbrev pub Reading : Type 0
+Reading = Result Words Refusal
+
 -- F2 to F4: a read is refused for its block, then for its parameter
 abbrev pub read_by : Words → Entry → Reading
-read_by w NoBlock = Refused (ground 1)
-read_by w NoParameter = Refused (ground 2)
-read_by w (Parameter class allowed) = Read w
+read_by w NoBlock = Err (ground 1)
+read_by w NoParameter = Err (ground 2)
+read_by w (Parameter class allowed) = Ok w
 
 unfoldable pub read_of : Device → ℕ → ℕ → Reading
 read_of d block number = read_by (words_of d block number) (entry_of block number)

@@ -9,6 +9,9 @@ ghost use Rattle.device.specs.Factory.{ain_by, tot_by, ao_by, di_by, dout_by, fa
 ghost use Rattle.device.specs.Stored.{ain_settings, tot_settings, ao_settings, di_settings, dout_settings, rev_after, pair_of, discrete_pair, entered_by};
 ghost use Rattle.device.specs.Stored.{ain_written, tot_written, ao_written, di_written, dout_written, stored_in};
 ghost use Rattle.device.specs.Read.{code, float, ends, given, given_d, alarm_byte, ain_words, tot_words, ao_words, di_words, dout_words, words_of, read_of};
+ghost use Rattle.ao.specs.Tick.{tick_of as ao_tick};
+ghost use Rattle.dout.specs.Tick.{tick_of as dout_tick};
+ghost use Rattle.device.specs.Blocks.{ain_ticked, tot_ticked, ao_ticked, di_ticked, dout_ticked};
 ghost use Rattle.device.specs.Calls.{standing_of, write_of, tick_of, telegram_of, tabled_by, load_of, warm_started};
 
 use ain::Alarms;
@@ -17,7 +20,7 @@ use linearisation::Table;
 use numbers::floats::{bits_of, float_of};
 use parameters::{Entry, Standing, Words};
 use scaling::Scale;
-use wire::{Answer, Discrete, Pair, Refusal};
+use wire::{Discrete, Pair, Refusal};
 
 #[repr(C)]
 #[derive(Clone, Copy)]
@@ -71,26 +74,11 @@ pub struct Device {
     pub dout: DoutBlock,
 }
 
-// The device after a call, and what the call is answered.
+// The drive orders of a tick.
 #[derive(Clone, Copy)]
-pub struct Answered {
-    pub device: Device,
-    pub answer: Answer,
-}
-
-// The device after a tick, and the drive orders of AO and of DO.
-#[derive(Clone, Copy)]
-pub struct Ticked {
-    pub device: Device,
-    pub order: Order,
-    pub order_d: dout::Order,
-}
-
-// What a read is answered.
-#[derive(Clone, Copy)]
-pub enum Reading {
-    Read(Words),
-    Refused(Refusal),
+pub struct Orders {
+    pub ao: Order,
+    pub dout: dout::Order,
 }
 
 // ---- factory
@@ -171,48 +159,39 @@ fn default_dout() -> dout::Settings
     }
 }
 
-pub fn factory() -> Device
-    ensures { result ≡ factory_device }
-{
-    let ain_settings = default_ain();
-    let tot_settings = default_tot();
-    let ao_settings = default_ao();
-    let di_settings = default_di();
-    let dout_settings = default_dout();
-    let ain_state = ain::fresh();
-    let tot_state = tot::fresh();
-    let ao_state = ao::fresh();
-    let di_state = di::fresh();
-    let dout_state = dout::fresh();
-    let no_table = linearisation::none();
-    Device {
-        write_locking: 2457,
-        ain: AinBlock {
-            settings: ain_settings,
-            state: ain_state,
-            st_rev: 0,
-            table: no_table,
-        },
-        tot: TotBlock {
-            settings: tot_settings,
-            state: tot_state,
-            st_rev: 0,
-        },
-        ao: AoBlock {
-            settings: ao_settings,
-            state: ao_state,
-            st_rev: 0,
-        },
-        di: DiBlock {
-            settings: di_settings,
-            state: di_state,
-            st_rev: 0,
-        },
-        dout: DoutBlock {
-            settings: dout_settings,
-            state: dout_state,
-            st_rev: 0,
-        },
+impl Device {
+    pub fn factory() -> Device
+        ensures { result ≡ factory_device }
+    {
+        Device {
+            write_locking: 2457,
+            ain: AinBlock {
+                settings: default_ain(),
+                state: ain::fresh(),
+                st_rev: 0,
+                table: Table::default(),
+            },
+            tot: TotBlock {
+                settings: default_tot(),
+                state: tot::fresh(),
+                st_rev: 0,
+            },
+            ao: AoBlock {
+                settings: default_ao(),
+                state: ao::fresh(),
+                st_rev: 0,
+            },
+            di: DiBlock {
+                settings: default_di(),
+                state: di::fresh(),
+                st_rev: 0,
+            },
+            dout: DoutBlock {
+                settings: default_dout(),
+                state: dout::fresh(),
+                st_rev: 0,
+            },
+        }
     }
 }
 
@@ -475,69 +454,45 @@ fn dout_written(block: DoutBlock, parameter: u8, a: u32, b: u32) -> DoutBlock
     next
 }
 
-fn stored(d: Device, block: u8, parameter: u8, a: u32, b: u32) -> Device
-    ensures { result ≡ stored_in d block parameter a b }
-{
-    let mut next = d;
-    match block {
-        0 => next.write_locking = a,
-        1 => {
-            let ain = ain_written(d.ain, parameter, a, b);
-            next.ain = ain;
+impl Device {
+    // An accepted write.
+    #[tactic(auto, unfolding(crate::specs::Stored::stored_in))]
+    fn store(&mut self, block: u8, parameter: u8, a: u32, b: u32)
+        ensures { self.new ≡ stored_in self.old block parameter a b }
+    {
+        match block {
+            0 => self.write_locking = a,
+            1 => self.ain = ain_written(self.ain, parameter, a, b),
+            2 => self.tot = tot_written(self.tot, parameter, a, b),
+            3 => self.ao = ao_written(self.ao, parameter, a, b),
+            4 => self.di = di_written(self.di, parameter, a, b),
+            5 => self.dout = dout_written(self.dout, parameter, a, b),
+            _ => {}
         }
-        2 => {
-            let tot = tot_written(d.tot, parameter, a, b);
-            next.tot = tot;
-        }
-        3 => {
-            let ao = ao_written(d.ao, parameter, a, b);
-            next.ao = ao;
-        }
-        4 => {
-            let di = di_written(d.di, parameter, a, b);
-            next.di = di;
-        }
-        5 => {
-            let dout = dout_written(d.dout, parameter, a, b);
-            next.dout = dout;
-        }
-        _ => {}
     }
-    next
-}
 
-fn standing(d: Device) -> Standing
-    ensures { result ≡ standing_of d }
-{
-    let table = linearisation::is_there(d.ain.table);
-    Standing {
-        lock: d.write_locking,
-        ain: d.ain.settings.target,
-        tot: d.tot.settings.target,
-        ao: d.ao.settings.target,
-        di: d.di.settings.target,
-        dout: d.dout.settings.target,
-        table: table,
-    }
-}
-
-pub fn write(d: Device, block: u8, parameter: u8, a: u32, b: u32) -> Answered
-    ensures { result ≡ write_of d block parameter a b }
-{
-    let stands = standing(d);
-    let answer = parameters::answer_to(stands, block, parameter, a, b);
-    match answer {
-        Answer::Accepted => {
-            let next = stored(d, block, parameter, a, b);
-            Answered {
-                device: next,
-                answer: Answer::Accepted,
-            }
+    fn standing(&self) -> Standing
+        ensures { result ≡ standing_of self.now }
+    {
+        Standing {
+            lock: self.write_locking,
+            ain: self.ain.settings.target,
+            tot: self.tot.settings.target,
+            ao: self.ao.settings.target,
+            di: self.di.settings.target,
+            dout: self.dout.settings.target,
+            table: self.ain.table.is_loaded(),
         }
-        Answer::Refused(refusal) => Answered {
-            device: d,
-            answer: Answer::Refused(refusal),
-        },
+    }
+
+    #[tactic(auto, unfolding(crate::specs::Calls::write_of))]
+    pub fn write(&mut self, block: u8, parameter: u8, a: u32, b: u32) -> Result<(), Refusal>
+        ensures answer { result ≡ (write_of self.old block parameter a b).answer }
+        ensures device { self.new ≡ (write_of self.old block parameter a b).device }
+    {
+        parameters::answer_to(self.standing(), block, parameter, a, b)?;
+        self.store(block, parameter, a, b);
+        Ok(())
     }
 }
 
@@ -697,8 +652,9 @@ fn dout_words(b: DoutBlock, parameter: u8) -> Words
     }
 }
 
-fn words_of(d: Device, block: u8, parameter: u8) -> Words
-    ensures { result ≡ words_of d block parameter }
+#[tactic(auto, unfolding(crate::specs::Read::words_of))]
+fn words_of(d: &Device, block: u8, parameter: u8) -> Words
+    ensures { result ≡ words_of d.now block parameter }
 {
     match block {
         0 => code_words(d.write_locking),
@@ -710,182 +666,160 @@ fn words_of(d: Device, block: u8, parameter: u8) -> Words
     }
 }
 
-pub fn read(d: Device, block: u8, parameter: u8) -> Reading
-    ensures { result ≡ read_of d block parameter }
-{
-    let entry = parameters::entry_of(block, parameter);
-    match entry {
-        Entry::NoBlock => Reading::Refused(Refusal::NoSuchBlock),
-        Entry::NoParameter => Reading::Refused(Refusal::NoSuchParameter),
-        Entry::Parameter(_, _) => {
-            let words = words_of(d, block, parameter);
-            Reading::Read(words)
+impl Device {
+    #[tactic(auto, unfolding(crate::specs::Read::read_of))]
+    pub fn read(&self, block: u8, parameter: u8) -> Result<Words, Refusal>
+        ensures { result ≡ read_of self.now block parameter }
+    {
+        match parameters::entry_of(block, parameter) {
+            Entry::NoBlock => Err(Refusal::NoSuchBlock),
+            Entry::NoParameter => Err(Refusal::NoSuchParameter),
+            Entry::Parameter(_, _) => Ok(words_of(self, block, parameter)),
         }
     }
 }
 
 // ---- tick, telegram, load, warm start
 
-pub fn tick(d: Device, fault: bool, ain: Pair, tot: Pair, di: Discrete) -> Ticked
-    ensures { result ≡ tick_of d fault ain tot di }
-{
-    let ain_state = ain::tick(
-        d.ain.settings,
-        d.ain.table,
-        d.ain.state,
-        fault,
-        ain.bits,
-        ain.status,
-    );
-    let tot_state = tot::tick(d.tot.settings, d.tot.state, fault, tot.bits, tot.status);
-    let ao_ticked = ao::tick(d.ao.settings, d.ao.state, fault);
-    let di_state = di::tick(d.di.settings, d.di.state, fault, di.value, di.status);
-    let dout_ticked = dout::tick(d.dout.settings, d.dout.state, fault);
-    let ao_state = ao_ticked.state;
-    let order = ao_ticked.order;
-    let dout_state = dout_ticked.state;
-    let order_d = dout_ticked.order;
-    let mut ain_next = d.ain;
-    let mut tot_next = d.tot;
-    let mut ao_next = d.ao;
-    let mut di_next = d.di;
-    let mut dout_next = d.dout;
-    ain_next.state = ain_state;
-    tot_next.state = tot_state;
-    ao_next.state = ao_state;
-    di_next.state = di_state;
-    dout_next.state = dout_state;
-    let mut next = d;
-    next.ain = ain_next;
-    next.tot = tot_next;
-    next.ao = ao_next;
-    next.di = di_next;
-    next.dout = dout_next;
-    Ticked {
-        device: next,
-        order: order,
-        order_d: order_d,
+impl AinBlock {
+    fn tick(&mut self, fault: bool, input: Pair)
+        ensures { self.new ≡ ain_ticked self.old fault input }
+    {
+        self.state = ain::tick(
+            self.settings,
+            self.table,
+            self.state,
+            fault,
+            input.bits,
+            input.status,
+        );
+    }
+
+    // Another table: one static write more.
+    fn load(&mut self, table: Table)
+        ensures { self.new ≡ tabled_by self.old table }
+    {
+        self.st_rev = rev_after(true, self.st_rev);
+        self.table = table;
     }
 }
 
-pub fn telegram(d: Device, input: u8, bytes: &[u8]) -> Answered
-    ensures { result ≡ telegram_of d input bytes.now }
-{
-    let discrete = input > 1;
-    if discrete {
-        let taken_d = dout::telegram(d.dout.state, input, bytes);
-        let received_d = taken_d.state;
-        let answer_d = taken_d.answer;
-        let mut dout_next = d.dout;
-        dout_next.state = received_d;
-        let mut next_d = d;
-        next_d.dout = dout_next;
-        return Answered {
-            device: next_d,
-            answer: answer_d,
-        };
-    }
-    let taken = ao::telegram(d.ao.state, input, bytes);
-    let received = taken.state;
-    let answer = taken.answer;
-    let mut ao_next = d.ao;
-    ao_next.state = received;
-    let mut next = d;
-    next.ao = ao_next;
-    Answered {
-        device: next,
-        answer: answer,
+impl TotBlock {
+    fn tick(&mut self, fault: bool, input: Pair)
+        ensures { self.new ≡ tot_ticked self.old fault input }
+    {
+        self.state = tot::tick(self.settings, self.state, fault, input.bits, input.status);
     }
 }
 
-// AIN with another table: one static write more.
-fn tabled(block: AinBlock, table: Table) -> AinBlock
-    ensures { result ≡ tabled_by block table }
-{
-    let rev = rev_after(true, block.st_rev);
-    let settings = block.settings;
-    let state = block.state;
-    AinBlock {
-        settings: settings,
-        state: state,
-        st_rev: rev,
-        table: table,
+impl AoBlock {
+    fn tick(&mut self, fault: bool) -> Order
+        ensures order { result ≡ (ao_tick self.old.settings self.old.state fault).order }
+        ensures block { self.new ≡ ao_ticked self.old fault }
+    {
+        let ticked = ao::tick(self.settings, self.state, fault);
+        self.state = ticked.state;
+        ticked.order
     }
 }
 
-// Loads a linearisation table for AIN, eight bytes to a pair.
-pub fn load(d: Device, bytes: &[u8]) -> Answered
-    ensures { result ≡ load_of d bytes.now }
-{
-    let locked = d.write_locking == 0;
-    if locked {
-        return Answered {
-            device: d,
-            answer: Answer::Refused(Refusal::Locked),
-        };
+impl DiBlock {
+    fn tick(&mut self, fault: bool, input: Discrete)
+        ensures { self.new ≡ di_ticked self.old fault input }
+    {
+        self.state = di::tick(self.settings, self.state, fault, input.value, input.status);
     }
-    let loaded = linearisation::table_of(bytes);
-    let answer = loaded.answer;
-    let table = loaded.table;
-    match answer {
-        Answer::Accepted => {
-            let ain = tabled(d.ain, table);
-            let mut next = d;
-            next.ain = ain;
-            Answered {
-                device: next,
-                answer: Answer::Accepted,
-            }
+}
+
+impl DoutBlock {
+    fn tick(&mut self, fault: bool) -> dout::Order
+        ensures order { result ≡ (dout_tick self.old.settings self.old.state fault).order }
+        ensures block { self.new ≡ dout_ticked self.old fault }
+    {
+        let ticked = dout::tick(self.settings, self.state, fault);
+        self.state = ticked.state;
+        ticked.order
+    }
+}
+
+impl Device {
+    // Block by block, each in its place.
+    #[tactic(auto, unfolding(crate::specs::Calls::tick_of))]
+    pub fn tick(&mut self, fault: bool, ain: Pair, tot: Pair, di: Discrete) -> Orders
+        ensures ao { result.ao ≡ (tick_of self.old fault ain tot di).order }
+        ensures dout { result.dout ≡ (tick_of self.old fault ain tot di).order_d }
+        ensures device { self.new ≡ (tick_of self.old fault ain tot di).device }
+    {
+        self.ain.tick(fault, ain);
+        self.tot.tick(fault, tot);
+        self.di.tick(fault, di);
+        Orders {
+            ao: self.ao.tick(fault),
+            dout: self.dout.tick(fault),
         }
-        Answer::Refused(refusal) => Answered {
-            device: d,
-            answer: Answer::Refused(refusal),
-        },
     }
-}
 
-pub fn warm_start(d: Device) -> Device
-    ensures { result ≡ warm_started d }
-{
-    let ain_started = ain::warm_start(d.ain.state);
-    let tot_started = tot::warm_start(d.tot.state);
-    let ao_started = ao::warm_start(d.ao.state);
-    let di_started = di::warm_start(d.di.state);
-    let dout_started = dout::warm_start(d.dout.state);
-    let mut ain_next = d.ain;
-    let mut tot_next = d.tot;
-    let mut ao_next = d.ao;
-    let mut di_next = d.di;
-    let mut dout_after = d.dout;
-    ain_next.state = ain_started;
-    tot_next.state = tot_started;
-    ao_next.state = ao_started;
-    di_next.state = di_started;
-    dout_after.state = dout_started;
-    let mut next = d;
-    next.ain = ain_next;
-    next.tot = tot_next;
-    next.ao = ao_next;
-    next.di = di_next;
-    next.dout = dout_after;
-    next
-}
+    // A telegram: AO's inputs are 0 and 1, and any other is DO's, which refuses those that it lacks.
+    #[tactic(auto, unfolding(crate::specs::Calls::telegram_of))]
+    pub fn telegram(&mut self, input: u8, bytes: &[u8]) -> Result<(), Refusal>
+        ensures answer { result ≡ (telegram_of self.old input bytes.now).answer }
+        ensures device { self.new ≡ (telegram_of self.old input bytes.now).device }
+    {
+        if input > 1 {
+            let taken = dout::telegram(self.dout.state, input, bytes);
+            self.dout.state = taken.state;
+            return taken.answer;
+        }
+        let taken = ao::telegram(self.ao.state, input, bytes);
+        self.ao.state = taken.state;
+        taken.answer
+    }
 
-// ---- image
+    // Loads a linearisation table for AIN, eight bytes to a pair.
+    #[tactic(auto, unfolding(crate::specs::Calls::load_of))]
+    pub fn load(&mut self, bytes: &[u8]) -> Result<(), Refusal>
+        ensures answer { result ≡ (load_of self.old bytes.now).answer }
+        ensures device { self.new ≡ (load_of self.old bytes.now).device }
+    {
+        if self.write_locking == 0 {
+            return Err(Refusal::Locked);
+        }
+        self.ain.load(Table::try_from(bytes)?);
+        Ok(())
+    }
 
-// The blocks' values and statuses as last given, into the front of a buffer.
-pub fn image(d: Device, buf: &mut [u8]) -> Answer
-    ensures value { result ≡ image_answer buf.old }
-    ensures buf_after { buf.new ≡ image_bytes buf.old d.ain.state.out d.tot.state.out d.ao.state.out d.di.state.out d.dout.state.out }
-{
-    wire::image(
-        buf,
-        d.ain.state.out,
-        d.tot.state.out,
-        d.ao.state.out,
-        d.di.state.out,
-        d.dout.state.out,
-    )
+    #[tactic(auto, unfolding(crate::specs::Calls::warm_started))]
+    pub fn warm_start(&mut self)
+        ensures { self.new ≡ warm_started self.old }
+    {
+        self.ain.state = ain::warm_start(self.ain.state);
+        self.tot.state = tot::warm_start(self.tot.state);
+        self.ao.state = ao::warm_start(self.ao.state);
+        self.di.state = di::warm_start(self.di.state);
+        self.dout.state = dout::warm_start(self.dout.state);
+    }
+
+    // The blocks' values and statuses as last given, into the front of a buffer.
+    pub fn image(&self, buf: &mut [u8]) -> Result<(), Refusal>
+        ensures value { result ≡ image_answer buf.old }
+        ensures buf_after { buf.new ≡ image_bytes buf.old self.now.ain.state.out self.now.tot.state.out self.now.ao.state.out self.now.di.state.out self.now.dout.state.out }
+    {
+        wire::image(
+            buf,
+            self.ain.state.out,
+            self.tot.state.out,
+            self.ao.state.out,
+            self.di.state.out,
+            self.dout.state.out,
+        )
+    }
+
+    // The total in thousandths, whole; a read of TOTAL gives it cut.
+    pub fn total(&self) -> i64
+        ensures { result ≡ self.now.tot.state.total }
+    {
+        self.tot.state.total
+    }
 }
 
 // One block's bytes of an image, lent out of the buffer itself.
@@ -894,12 +828,4 @@ pub fn part(buf: &[u8], block: u8) -> &[u8]
     ensures ref_ptr_value { result.ref_ptr ≡ part_place buf.entry.ref_ptr buf.now block }
 {
     wire::part(buf, block)
-}
-
-// The total in thousandths, whole; a read of TOTAL gives it cut.
-pub fn total(d: Device) -> i64
-    ensures { result ≡ d.tot.state.total }
-{
-    let state = d.tot.state;
-    state.total
 }

@@ -13,7 +13,7 @@ use Rattle.dout.specs.declared.Settings.{Settings}
 use Rattle.dout.specs.declared.Input.{Input}
 use Rattle.dout.specs.declared.State.{State}
 use Rattle.dout.specs.State.{input_of}
-use Rattle.dout.specs.Telegram.{input_after, taken_on, received, lacking, telegram_of}
+use Rattle.dout.specs.Telegram.{input_after, taken_on, lacking, telegram_of}
 use Rattle.dout.specs.Tick.{out_of, given_by, given_by_input, input_used, given_in, ticked_with, tick_of}
 
 -- the values in the state that OUT_D can come from
@@ -54,7 +54,7 @@ heard-discrete input pair d = after-telegram-holds Discrete pair.status (is_disc
 -- So does a telegram, accepted or refused.
 pub telegram-discrete : (state : State) (input : ℕ) (bytes : List ℕ) → DiscreteStore state → DiscreteStore (telegram_of state input bytes).state
 unfolding telegram_of taken_on
-telegram-discrete state input bytes h = telegram-holds DiscreteStore (lacking input) (taken_on state input) state (received (discrete_of bytes)) h taken
+telegram-discrete state input bytes h = telegram-holds DiscreteStore (lacking input) (taken_on state input) state (discrete_of bytes) h taken
   where
     taken : (pair : Pair) → DiscreteStore (taken_on state input pair)
     taken pair = go (eqb input 2)

@@ -1,11 +1,10 @@
 -- DO's telegrams, document 02, request 3, by document 01, AO tick and Refused calls. Assumes nothing.
 use Rattle.std.specs.Prelude.{ℕ, Bool, cond, not, ◌||◌, List, eqb}
 use Rattle.wire.specs.declared.Discrete.{Discrete}
-use Rattle.wire.specs.declared.DiscreteReceived.{DiscreteReceived}
 use Rattle.wire.specs.Bytes.{discrete_of}
 use Rattle.blocks.specs.Discrete.{is_discrete}
 use Rattle.blocks.specs.FailSafe.{after_telegram}
-use Rattle.blocks.specs.Output.{ReceivedOf, TakenOf, telegram_by}
+use Rattle.blocks.specs.Output.{TakenOf, telegram_by}
 use Rattle.dout.specs.declared.Input.{Input}
 use Rattle.dout.specs.declared.State.{State}
 use Rattle.dout.specs.declared.Taken.{Taken}
@@ -22,11 +21,7 @@ taken_on state input pair =
     (record { out = state.out; mode = state.mode; operator = state.operator; sp = input_after state.sp pair; rcas_in = state.rcas_in })
     (record { out = state.out; mode = state.mode; operator = state.operator; sp = state.sp; rcas_in = input_after state.rcas_in pair })
 
--- what bytes stand for, and a state with the answer, as the rules have them and as the code does
-abbrev pub received : DiscreteReceived → ReceivedOf Discrete
-received (DiscreteReceived.Value pair) = ReceivedOf.accepted pair
-received (DiscreteReceived.Refused r) = ReceivedOf.refused r
-
+-- a state with the answer, as the rules have it and as the code does
 abbrev pub taken_from : TakenOf State → Taken
 taken_from t = record { state = t.state; answer = t.answer }
 
@@ -36,4 +31,4 @@ lacking input = not (eqb input 2 || eqb input 3)
 
 -- Q3.8a, F2, F9, F10: refused as AO's are, with two bytes for five
 unfoldable pub telegram_of : State → ℕ → List ℕ → Taken
-telegram_of state input bytes = taken_from (telegram_by (lacking input) (taken_on state input) state (received (discrete_of bytes)))
+telegram_of state input bytes = taken_from (telegram_by (lacking input) (taken_on state input) state (discrete_of bytes))

@@ -10,7 +10,7 @@ ghost use Rattle.dout.specs.Tick.{given_by, case_by, input_used, given_in, input
 ghost use Rattle.dout.specs.Code.{rule_case, given_of};
 
 use blocks::Class;
-use wire::{Answer, Discrete, DiscreteReceived, Refusal};
+use wire::{Discrete, Refusal};
 
 // The stored parameters that the tick goes by.
 #[repr(C)]
@@ -56,7 +56,7 @@ pub enum Order {
 #[derive(Clone, Copy)]
 pub struct Taken {
     pub state: State,
-    pub answer: Answer,
+    pub answer: Result<(), Refusal>,
 }
 
 #[derive(Clone, Copy)]
@@ -208,21 +208,17 @@ pub fn telegram(state: State, input: u8, bytes: &[u8]) -> Taken
     if unknown {
         return Taken {
             state,
-            answer: Answer::Refused(Refusal::NoSuchInput),
+            answer: Err(Refusal::NoSuchInput),
         };
     }
-    let received = wire::discrete_of(bytes);
-    match received {
-        DiscreteReceived::Value(pair) => {
-            let state = taken_on(state, input, pair);
-            Taken {
-                state,
-                answer: Answer::Accepted,
-            }
-        }
-        DiscreteReceived::Refused(refusal) => Taken {
+    match Discrete::try_from(bytes) {
+        Ok(pair) => Taken {
+            state: taken_on(state, input, pair),
+            answer: Ok(()),
+        },
+        Err(refusal) => Taken {
             state,
-            answer: Answer::Refused(refusal),
+            answer: Err(refusal),
         },
     }
 }

@@ -1,10 +1,12 @@
 -- Tables by the rules: what bytes are refused for, what a value becomes, and the device by the rules over a load. Assumes nothing.
+use Rattle.std.specs.Prelude.{Ok, Err}
 use Prim.Native.Nat.{ℕ, ◌/◌, ◌%◌, ◌<◌, ◌≤◌}
 use native.Mathlib.Omega.{arith}
 use mathlib.Core.Path.{◌≡◌, refl, sym, ap, ◌∙◌, subst}
 use mathlib.Core.Bool.{Bool, true, false, not, ◌&&◌, cond}
 use mathlib.Core.List.{List, [], ◌∷◌}
 use mathlib.Core.Option.{Option, none, some}
+use Rattle.std.specs.Prelude.{Result, Ok, Err}
 use lib.Dec.{T, eqb, leb, ltb, eqb→eq, leb→le, le→leb, ltb→lt}
 use lib.Ieee.Fits.{and_l, and_r, and_i}
 use lib.Ieee.{Float, lt, le}
@@ -12,19 +14,18 @@ use lib.Ieee.Scale.{finite}
 use lib.ListN.{length}
 use borrow.Author.Tests.{ltb-false, ne_eqb}
 use Rattle.wire.specs.declared.Refusal.{Refusal}
-use Rattle.wire.specs.Refusal.{ground}
-use Rattle.wire.specs.declared.Answer.{Answer}
-use Rattle.wire.specs.declared.Answer.TheVariants.{Accepted, Refused}
+use Rattle.wire.specs.Refusal.{granted, ground}
+use Rattle.wire.specs.Refusal.{Answer}
 use Rattle.linearisation.specs.declared.Point.{Point}
 use Rattle.linearisation.specs.declared.Table.{Table}
-use Rattle.linearisation.specs.Table.{table_of, has_table, pairs_in, whole_pairs, follow, allowed, refused_as, loaded_of}
+use Rattle.linearisation.specs.Table.{table_of, has_table, pairs_in, whole_pairs, follow, allowed, loaded_of}
 use Rattle.linearisation.specs.Value.{or_here, used_on, between, by_used, value_at}
 use Rattle.linearisation.specs.Laws.{pairs-back, made-valid}
 use Rattle.ain.specs.Tick as Ain
 use Rattle.ao.specs.State.{input_from}
 use Rattle.dout.specs.State as Dout
 use Rattle.device.specs.declared.Device.{Device}
-use Rattle.device.specs.declared.Answered.{Answered}
+use Rattle.device.specs.Calls.{Answered}
 use Rattle.device.specs.Calls.{load_by, load_of}
 use Rattle.history.specs.Past.{History, ◌▷◌, told, count, latest, carried}
 use Rattle.history.specs.Calls.{Event, loaded}
@@ -71,7 +72,7 @@ measured-is h x = ap (λ (y : Float). cond (eqb (code h 1 13) 1) y x) (ap (λ (p
 
 -- ---- what bytes are refused for
 
-pub refused-other : {r : Refusal} → Refused r ≡ Accepted → ⊥
+pub refused-other : {r : Refusal} → Err r ≡ granted → ⊥
 refused-other e = let z : ◌≡◌ {A = ℕ} 0 1 = cc in omega arith
 
 same : (a b : Bool) → (T a → T b) → (T b → T a) → a ≡ b
@@ -170,35 +171,39 @@ allowed_same (p ∷ ps) = ap (λ (b : Bool). finite p.x && finite p.y && b) (fol
 
 -- what bytes are answered, whatever the lock
 abbrev judged : List ℕ → Answer
-judged bytes = cond (not (is_whole (length bytes))) (refused 9) (cond (not (all_finite (pairs_in bytes) && rising (pairs_in bytes))) (refused 10) Accepted)
+judged bytes = cond (not (is_whole (length bytes))) (refused 9) (cond (not (all_finite (pairs_in bytes) && rising (pairs_in bytes))) (refused 10) granted)
 
-loaded-answer : (bytes : List ℕ) → (loaded_of bytes).answer ≡ judged bytes
+-- what a load answers
+abbrev answered : Result Table Refusal → Answer
+answered (Ok table) = granted
+answered (Err r) = Err r
+
+loaded-answer : (bytes : List ℕ) → answered (loaded_of bytes) ≡ judged bytes
 unfolding loaded_of
 loaded-answer bytes =
-    (λ i. (cond (not (whole_same (length bytes) i)) (refused_as (ground 9)) (cond (not (allowed_same (pairs_in bytes) i)) (refused_as (ground 10)) (record { table = table_of (pairs_in bytes); answer = Accepted }))).answer)
+    (λ i. answered (cond (not (whole_same (length bytes) i)) (Err (ground 9)) (cond (not (allowed_same (pairs_in bytes) i)) (Err (ground 10)) (Ok (table_of (pairs_in bytes))))))
     ∙ go (is_whole (length bytes)) (all_finite (pairs_in bytes) && rising (pairs_in bytes))
   where
-    go : (w a : Bool) → (cond (not w) (refused_as (ground 9)) (cond (not a) (refused_as (ground 10)) (record { table = table_of (pairs_in bytes); answer = Accepted }))).answer
-        ≡ cond (not w) (refused 9) (cond (not a) (refused 10) Accepted)
+    go : (w a : Bool) → answered (cond (not w) (Err (ground 9)) (cond (not a) (Err (ground 10)) (Ok (table_of (pairs_in bytes)))))
+        ≡ cond (not w) (refused 9) (cond (not a) (refused 10) granted)
     go false a = refl
     go true false = refl
     go true true = refl
 
 -- accepted bytes are a table of their pairs, and it has some
-accepted-table : (bytes : List ℕ) → judged bytes ≡ Accepted → ((loaded_of bytes).table ≡ table_of (pairs_in bytes)) × (has_table (table_of (pairs_in bytes)) ≡ true)
+accepted-table : (bytes : List ℕ) → judged bytes ≡ granted → (loaded_of bytes ≡ Ok (table_of (pairs_in bytes))) × (has_table (table_of (pairs_in bytes)) ≡ true)
 accepted-table bytes e =
-    let a = loaded-answer bytes ∙ e in
-    let t = is-table a in
-    (t, ap (λ (x : Table). has_table x) (sym t) ∙ ap not (ne_eqb (loaded_of bytes).table.count 0 (some_pairs (made-valid bytes a).count.0)))
+    let t = is-table (loaded-answer bytes ∙ e) in
+    (t, ap not (ne_eqb (length (pairs_in bytes)) 0 (some_pairs (made-valid bytes (table_of (pairs_in bytes)) t).count.0)))
   where
     some_pairs : {n : ℕ} → 2 ≤ n → n ≡ 0 → ⊥
     some_pairs h z = omega arith
 
-    is-table : (loaded_of bytes).answer ≡ Accepted → (loaded_of bytes).table ≡ table_of (pairs_in bytes)
+    is-table : answered (loaded_of bytes) ≡ granted → loaded_of bytes ≡ Ok (table_of (pairs_in bytes))
     is-table = unfold loaded_of in go (whole_pairs (length bytes)) (allowed (pairs_in bytes))
       where
-        go : (w a : Bool) → (cond (not w) (refused_as (ground 9)) (cond (not a) (refused_as (ground 10)) (record { table = table_of (pairs_in bytes); answer = Accepted }))).answer ≡ Accepted
-            → (cond (not w) (refused_as (ground 9)) (cond (not a) (refused_as (ground 10)) (record { table = table_of (pairs_in bytes); answer = Accepted }))).table ≡ table_of (pairs_in bytes)
+        go : (w a : Bool) → answered (cond (not w) (Err (ground 9)) (cond (not a) (Err (ground 10)) (Ok (table_of (pairs_in bytes))))) ≡ granted
+            → cond (not w) (Err (ground 9)) (cond (not a) (Err (ground 10)) (Ok (table_of (pairs_in bytes)))) ≡ Ok (table_of (pairs_in bytes))
         go false a e = absurd (refused-other e)
         go true false e = absurd (refused-other e)
         go true true e = refl
@@ -206,27 +211,27 @@ accepted-table bytes e =
 -- the device's answer
 pub load-answer : (h : History Event) (bytes : List ℕ) → (load_of (device_of h) bytes).answer ≡ to_load h bytes
 unfolding load_of device_of to_load
-load-answer h bytes = go (eqb (code h 0 18) 0) (loaded_of bytes).answer (loaded-answer bytes)
+load-answer h bytes = go (eqb (code h 0 18) 0) (loaded_of bytes) (loaded-answer bytes)
   where
-    by : (x : Answer) → (load_by (device_of h) (loaded_of bytes).table x).answer ≡ x
-    by Accepted = refl
-    by (Refused r) = refl
+    by : (x : Result Table Refusal) → (load_by (device_of h) x).answer ≡ answered x
+    by (Ok table) = refl
+    by (Err r) = refl
 
-    go : (p : Bool) (x : Answer) → x ≡ judged bytes
-        → (cond p (record { device = device_of h; answer = refused 4 }) (load_by (device_of h) (loaded_of bytes).table x)).answer ≡ cond p (refused 4) (judged bytes)
+    go : (p : Bool) (x : Result Table Refusal) → answered x ≡ judged bytes
+        → (cond p (record { device = device_of h; answer = refused 4 }) (load_by (device_of h) x)).answer ≡ cond p (refused 4) (judged bytes)
     go true x e = refl
     go false x e = by x ∙ e
 
 -- the device after a load, by its answer
-pub load-refused : (d : Device) (bytes : List ℕ) (r : Refusal) → (load_of d bytes).answer ≡ Refused r → (load_of d bytes).device ≡ d
+pub load-refused : (d : Device) (bytes : List ℕ) (r : Refusal) → (load_of d bytes).answer ≡ Err r → (load_of d bytes).device ≡ d
 unfolding load_of
-load-refused d bytes r = go (eqb d.write_locking 0) (loaded_of bytes).answer
+load-refused d bytes r = go (eqb d.write_locking 0) (loaded_of bytes)
   where
-    go : (p : Bool) (x : Answer) → (cond p (record { device = d; answer = refused 4 }) (load_by d (loaded_of bytes).table x)).answer ≡ Refused r
-        → (cond p (record { device = d; answer = refused 4 }) (load_by d (loaded_of bytes).table x)).device ≡ d
+    go : (p : Bool) (x : Result Table Refusal) → (cond p (record { device = d; answer = refused 4 }) (load_by d x)).answer ≡ Err r
+        → (cond p (record { device = d; answer = refused 4 }) (load_by d x)).device ≡ d
     go true x e = refl
-    go false Accepted e = absurd (refused-other (sym e))
-    go false (Refused s) e = refl
+    go false (Ok table) e = absurd (refused-other (sym e))
+    go false (Err s) e = refl
 
 module _ (h : History Event) (bytes : List ℕ) where
   abbrev then : History Event
@@ -255,17 +260,17 @@ module _ (h : History Event) (bytes : List ℕ) where
   unfolding dout_in operator latest
   dout-same = dout-left h (loaded bytes) (λ A f s o. refl) (discrete (operator 5 h)) (dout_input 2 h) (dout_input 3 h) refl (ap Dout.input_from (input-same discrete_out 2)) (ap Dout.input_from (input-same discrete_out 3))
 
-  module _ (e : to_load h bytes ≡ Accepted) where
-    parts : (eqb (code h 0 18) 0 ≡ false) × (judged bytes ≡ Accepted)
+  module _ (e : to_load h bytes ≡ granted) where
+    parts : (eqb (code h 0 18) 0 ≡ false) × (judged bytes ≡ granted)
     parts = go (eqb (code h 0 18) 0) (unfold to_load in e)
       where
-        go : (p : Bool) → cond p (refused 4) (judged bytes) ≡ Accepted → (p ≡ false) × (judged bytes ≡ Accepted)
+        go : (p : Bool) → cond p (refused 4) (judged bytes) ≡ granted → (p ≡ false) × (judged bytes ≡ granted)
         go true e = absurd (refused-other e)
         go false e = (refl, e)
 
-    unlocked : load_of (device_of h) bytes ≡ load_by (device_of h) (table_of (pairs_in bytes)) Accepted
+    unlocked : load_of (device_of h) bytes ≡ load_by (device_of h) (Ok (table_of (pairs_in bytes)))
     unfolding load_of device_of
-    unlocked = rw parts.0 (λ i. load_by (device_of h) ((accepted-table bytes parts.1).0 i) ((loaded-answer bytes ∙ parts.1) i))
+    unlocked = rw parts.0 (ap (load_by (device_of h)) (accepted-table bytes parts.1).0)
 
     -- an accepted load leads from the device by the rules to the next
     pub ruled-load : (load_of (device_of h) bytes).device ≡ device_of then

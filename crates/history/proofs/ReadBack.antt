@@ -1,4 +1,5 @@
 -- What reads give of the device by the rules is the rules' reading, and its image is that of the rules' pairs. Assumes nothing.
+use Rattle.std.specs.Prelude.{Ok}
 use Prim.Native.Nat.{ℕ, ◌<◌, ◌≤◌, ◌^◌, ◌+◌, ◌*◌}
 use native.Mathlib.Omega.{arith}
 use mathlib.Core.Path.{◌≡◌, refl, sym, ap, ◌∙◌, subst}
@@ -8,8 +9,8 @@ use lib.Dec.{T, leb, leb→le, le→leb, ltb, ltb→lt}
 use lib.Ieee.Fits.{and_l, and_r}
 use borrow.Author.Tests.{ltb-true, ltb-false}
 use lib.ListN.{length, drop}
-use Rattle.wire.specs.declared.Answer.TheVariants.{Accepted}
 use Rattle.wire.specs.Bytes.{five_bytes, two_bytes}
+use Rattle.wire.specs.Refusal.{granted}
 use Rattle.wire.specs.Image.{image_answer, image_bytes}
 use Rattle.parameters.specs.declared.Words.{Words}
 use Rattle.parameters.specs.declared.Class.TheVariants.{S, N, D, R}
@@ -21,8 +22,7 @@ use Rattle.parameters.specs.Words.{allows_of}
 use Rattle.parameters.specs.Refused.{stored_entry}
 use Rattle.parameters.specs.Laws.{by_rows, ◌also◌, shown, shown_by, shown-back}
 use Rattle.parameters.specs.Table as Table
-use Rattle.device.specs.declared.Reading.TheVariants.{Read}
-use Rattle.device.specs.Read.{bit, alarm_byte, ain_words, tot_words, ao_words, di_words, dout_words, discrete_words, words_of, read_of, read_by}
+use Rattle.device.specs.Read.{Reading, bit, alarm_byte, ain_words, tot_words, ao_words, di_words, dout_words, discrete_words, words_of, read_of, read_by}
 use Rattle.history.specs.Past.{History}
 use Rattle.history.specs.Calls.{Event, words}
 use Rattle.history.specs.Rules.{discrete, has, outputs, read_onlys, stored, stands, hi_hi, hi, lo, lo_lo, alarm_sum, given, reading, to_image}
@@ -72,17 +72,17 @@ module _ (h : History Event) (Q : Sound h) where
       eight true = refl
       eight false = refl
 
-  alarms-read : Read (words (alarm_byte (alarms_at h)) 0) ≡ Read (words (alarm_sum h) 0)
+  alarms-read : ◌≡◌ {A = Reading} (Ok (words (alarm_byte (alarms_at h)) 0)) (Ok (words (alarm_sum h) 0))
   unfolding alarm_byte alarms_at alarm_sum
-  alarms-read = ap (λ (n : ℕ). Read (words n 0)) (bits-sum (stands hi_hi h) (stands hi h) (stands lo h) (stands lo_lo h))
+  alarms-read = ap (λ (n : ℕ). Ok (words n 0)) (bits-sum (stands hi_hi h) (stands hi h) (stands lo h) (stands lo_lo h))
 
   -- stored parameters, as the settings give them
-  stored-read : (block number : ℕ) → T (stored_entry (entry_of block number)) → read_by (words_of (device_of h) block number) (entry_of block number) ≡ Read (shown_by (entry_of block number) (stored h block number))
+  stored-read : (block number : ℕ) → T (stored_entry (entry_of block number)) → read_by (words_of (device_of h) block number) (entry_of block number) ≡ Ok (shown_by (entry_of block number) (stored h block number))
   unfolding device_of words_of ain_words tot_words ao_words di_words dout_words discrete_words Table.physical Table.ain Table.tot Table.ao Table.di Table.dout Table.discrete ain_at tot_at ao_at di_at dout_at
   stored-read =
       by_rows
       (λ number e. stored_entry e)
-      (λ block number e. read_by (words_of (device_of h) block number) e ≡ Read (shown_by e (stored h block number)))
+      (λ block number e. read_by (words_of (device_of h) block number) e ≡ Ok (shown_by e (stored h block number)))
       (λ block number t. absurd t)
       (λ block number t. absurd t)
       (refl also tt)
@@ -108,12 +108,12 @@ module _ (h : History Event) (Q : Sound h) where
       (refl also refl also refl also refl also tt)
       (refl also refl also refl also refl also refl also tt)
 
-  other-read : (block number : ℕ) → T (unstored number (entry_of block number)) → read_by (words_of (device_of h) block number) (entry_of block number) ≡ Read (Rules.shown h block number)
+  other-read : (block number : ℕ) → T (unstored number (entry_of block number)) → read_by (words_of (device_of h) block number) (entry_of block number) ≡ Ok (Rules.shown h block number)
   unfolding device_of words_of ain_words tot_words ao_words di_words dout_words discrete_words Table.physical Table.ain Table.tot Table.ao Table.di Table.dout Table.discrete ain_in tot_in ao_in di_in dout_in Rules.shown outputs read_onlys
   other-read =
       by_rows
       unstored
-      (λ block number e. read_by (words_of (device_of h) block number) e ≡ Read (Rules.shown h block number))
+      (λ block number e. read_by (words_of (device_of h) block number) e ≡ Ok (Rules.shown h block number))
       (λ block number t. absurd t)
       (λ block number t. absurd t)
       tt
@@ -128,23 +128,23 @@ module _ (h : History Event) (Q : Sound h) where
   unfolding read_of
   reads_same block number = go (entry_of block number) (known block number) (stored-read block number) (stored-shown block number) (other-read block number) (Q block number)
     where
-      shows : (e : Entry) → (p : Bool) → (T p → read_by (words_of (device_of h) block number) e ≡ Read (Rules.shown h block number)) → (T (not p) → read_by (words_of (device_of h) block number) e ≡ Read (Rules.shown h block number)) → read_by (words_of (device_of h) block number) e ≡ Read (Rules.shown h block number)
+      shows : (e : Entry) → (p : Bool) → (T p → read_by (words_of (device_of h) block number) e ≡ Ok (Rules.shown h block number)) → (T (not p) → read_by (words_of (device_of h) block number) e ≡ Ok (Rules.shown h block number)) → read_by (words_of (device_of h) block number) e ≡ Ok (Rules.shown h block number)
       shows e true a b = a tt
       shows e false a b = b tt
 
-      listed : (ltb 5 block ≡ false) × (has block number ≡ true) → Read (Rules.shown h block number) ≡ reading h block number
+      listed : (ltb 5 block ≡ false) × (has block number ≡ true) → Ok (Rules.shown h block number) ≡ reading h block number
       listed k = sym (unfold reading in rw (k.0, k.1))
 
       go : (e : Entry) → Known block number e
-          → (T (stored_entry e) → read_by (words_of (device_of h) block number) e ≡ Read (shown_by e (stored h block number)))
+          → (T (stored_entry e) → read_by (words_of (device_of h) block number) e ≡ Ok (shown_by e (stored h block number)))
           → (T (stored_entry e) → Rules.shown h block number ≡ stored h block number)
-          → (T (unstored number e) → read_by (words_of (device_of h) block number) e ≡ Read (Rules.shown h block number))
+          → (T (unstored number e) → read_by (words_of (device_of h) block number) e ≡ Ok (Rules.shown h block number))
           → T (sound e (stored h block number))
           → read_by (words_of (device_of h) block number) e ≡ reading h block number
       go NoBlock k a b c q = sym (unfold reading in rw k)
       go NoParameter k a b c q = sym (unfold reading in rw (k.0, k.1))
       go (Parameter class allowed) k a b c q =
-          shows (Parameter class allowed) (stored_entry (Parameter class allowed)) (λ t. a t ∙ ap Read (sound-shown (Parameter class allowed) (stored h block number) t q ∙ sym (b t))) c ∙ listed k
+          shows (Parameter class allowed) (stored_entry (Parameter class allowed)) (λ t. a t ∙ ap Ok (sound-shown (Parameter class allowed) (stored h block number) t q ∙ sym (b t))) c ∙ listed k
 
 -- ---- the image
 
@@ -171,7 +171,7 @@ turned false x y = refl
 
 pub image-answer : (buffer : List ℕ) → image_answer buffer ≡ to_image buffer
 unfolding image_answer to_image
-image-answer buffer = ap (λ (b : Bool). cond b Accepted (Rules.refused 7)) (room (length buffer)) ∙ turned (ltb (length buffer) 19) Accepted (Rules.refused 7)
+image-answer buffer = ap (λ (b : Bool). cond b granted (Rules.refused 7)) (room (length buffer)) ∙ turned (ltb (length buffer) 19) granted (Rules.refused 7)
 
 pub image-same : (h : History Event) (buffer : List ℕ) → image_bytes buffer (device_of h).ain.state.out (device_of h).tot.state.out (device_of h).ao.state.out (device_of h).di.state.out (device_of h).dout.state.out ≡ Rules.image h buffer
 unfolding image_bytes Rules.image device_of ain_in tot_in ao_in di_in dout_in

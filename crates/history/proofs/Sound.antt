@@ -1,4 +1,5 @@
 -- Stored words are allowed words of 32 bits: the defaults are, and an accepted write's are. Assumes nothing.
+use Rattle.std.specs.Prelude.{Ok, Err}
 use Prim.Native.Nat.{ℕ, ◌^◌}
 use mathlib.Core.Path.{◌≡◌, refl, subst}
 use mathlib.Core.Bool.{Bool, true, false, ◌&&◌, cond}
@@ -8,8 +9,7 @@ use lib.Ieee.{le, of_bits, of_int, ne}
 use lib.Ieee.Fits.{and_i}
 use borrow.Author.Tests.{eqb-true}
 use Rattle.scaling.specs.Scaling.{allowed_scale}
-use Rattle.wire.specs.declared.Answer.{Answer}
-use Rattle.wire.specs.declared.Answer.TheVariants.{Accepted, Refused}
+use Rattle.wire.specs.Refusal.{granted, Answer}
 use Rattle.parameters.specs.declared.Words.{Words}
 use Rattle.parameters.specs.declared.Class.TheVariants.{S, N, D, R}
 use Rattle.parameters.specs.declared.Entry.{Entry}
@@ -72,9 +72,9 @@ accepted-sound (Parameter N allowed) a b t f = and_i (allows_of allowed a b) (fi
 accepted-sound (Parameter D allowed) a b t f = and_i (allows_of allowed a b) (fits (words a b)) t f
 accepted-sound (Parameter R allowed) a b t f = tt
 
-accepted-is : (g : Answer) → T (is_accepted g) → g ≡ Accepted
-accepted-is Accepted t = refl
-accepted-is (Refused r) t = absurd t
+accepted-is : (g : Answer) → T (is_accepted g) → g ≡ granted
+accepted-is (Ok u) t = refl
+accepted-is (Err r) t = absurd t
 
 pub sound-write : (h : History Event) (s : Standing) (block number a b : ℕ) → Sound h → T (is_accepted (ground s block number a b)) → T (fits (words a b)) → Sound (h ▷ wrote block number a b)
 unfolding stored latest

@@ -1,4 +1,5 @@
 -- The device by the rules over a telegram and a warm start. Assumes nothing.
+use Rattle.std.specs.Prelude.{Ok}
 use Prim.Native.Nat.{ℕ, zero, suc, ◌<◌, min}
 use native.Mathlib.Omega.{arith}
 use mathlib.Core.Path.{◌≡◌, refl, sym, ap, ◌∙◌}
@@ -11,8 +12,6 @@ use lib.ListN.{length, get_or}
 use Rattle.linearisation.specs.Table.{table_of}
 use Rattle.wire.specs.declared.Pair.{Pair}
 use Rattle.wire.specs.declared.Discrete.{Discrete}
-use Rattle.wire.specs.declared.Received.{Received}
-use Rattle.wire.specs.declared.DiscreteReceived.{DiscreteReceived}
 use Rattle.wire.specs.Bytes.{pair_of, word_of, discrete_of}
 use Rattle.blocks.specs.Common as Common
 use Rattle.blocks.specs.FailSafe.{InputOf, usable, initiates, after_telegram, emptied}
@@ -94,14 +93,14 @@ module _ {A : Type 0} (d : Drive A) (input : ℕ) (h : History Event) (e : Event
 five : List ℕ → Pair
 five bytes = record { bits = word_of (get_or bytes 0 0) (get_or bytes 1 0) (get_or bytes 2 0) (get_or bytes 3 0); status = get_or bytes 4 0 }
 
-five-is : (bytes : List ℕ) → eqb (length bytes) 5 ≡ true → pair_of bytes ≡ Received.Value (five bytes)
+five-is : (bytes : List ℕ) → eqb (length bytes) 5 ≡ true → pair_of bytes ≡ Ok (five bytes)
 unfolding pair_of five
 five-is bytes e = rw e
 
 two : List ℕ → Discrete
 two bytes = record { value = get_or bytes 0 0; status = get_or bytes 1 0 }
 
-two_is : (bytes : List ℕ) → eqb (length bytes) 2 ≡ true → discrete_of bytes ≡ DiscreteReceived.Value (two bytes)
+two_is : (bytes : List ℕ) → eqb (length bytes) 2 ≡ true → discrete_of bytes ≡ Ok (two bytes)
 unfolding discrete_of two
 two_is bytes e = rw e
 

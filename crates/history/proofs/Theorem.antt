@@ -1,4 +1,5 @@
 -- The claim holds of every list of calls: the device reached is the device by the rules, by one lemma for each call and one induction over the list. Assumes nothing.
+use Rattle.std.specs.Prelude.{Ok, Err}
 use Prim.Native.Nat.{ℕ, zero, suc, ◌<◌, ◌≤◌, ◌^◌}
 use native.Mathlib.Omega.{arith}
 use mathlib.Core.Path.{◌≡◌, refl, sym, ap, ◌∙◌, subst}
@@ -17,11 +18,8 @@ use Rattle.wire.specs.declared.Pair.{Pair}
 use Rattle.wire.specs.declared.Discrete.{Discrete}
 use Rattle.wire.specs.Bytes.{pair_of, word_of, discrete_of}
 use Rattle.wire.specs.Image.{image_bytes}
-use Rattle.wire.specs.declared.Received.{Received}
-use Rattle.wire.specs.declared.DiscreteReceived.{DiscreteReceived}
 use Rattle.wire.specs.declared.Refusal.TheVariants.{WrongLength}
-use Rattle.wire.specs.declared.Answer.{Answer}
-use Rattle.wire.specs.declared.Answer.TheVariants.{Accepted, Refused}
+use Rattle.wire.specs.Refusal.{granted, Answer}
 use Rattle.blocks.specs.Output.{received_by, telegram_by}
 use Rattle.ao.specs.Telegram as Ao
 use Rattle.dout.specs.Telegram as Dout
@@ -67,7 +65,7 @@ pub record Holds (d : Device) (h : History Event) : Type 0 where
 -- ---- a write
 
 -- block 0 has one parameter
-only-lock : (s : Standing) (block number a b : ℕ) → ground s block number a b ≡ Accepted → eqb block 0 ≡ true → eqb number 18 ≡ true
+only-lock : (s : Standing) (block number a b : ℕ) → ground s block number a b ≡ granted → eqb block 0 ≡ true → eqb number 18 ≡ true
 unfolding ground entry_of entry_in Table.physical
 only-lock s block number a b t e = go (eqb number 18) (subst (λ (x : Answer). T (is_accepted x)) (sym (sym (ap (λ (x : ℕ). ground s x number a b) (eqb-true block 0 e)) ∙ t)) tt)
   where
@@ -130,7 +128,7 @@ write-ruled h block number a b fit H = go (to_write h block number a b) refl (wr
   where
     go : (x : Answer) → to_write h block number a b ≡ x → ground (standing_of (device_of h)) block number a b ≡ to_write h block number a b
         → Holds (write_by (device_of h) block number a b (ground (standing_of (device_of h)) block number a b)).device (cond (is_accepted (to_write h block number a b)) (h ▷ wrote block number a b) h)
-    go Accepted e f =
+    go (Ok u) e f =
         let met = f ∙ e in
         let taken = accepted-takes (standing_of (device_of h)) block number a b met in
         rw (f, e) (record {
@@ -141,20 +139,20 @@ write-ruled h block number a b fit H = go (to_write h block number a b) refl (wr
           tabled = unfold table Rules.tabled latest in H.tabled;
           ticks = (H.ticks, tt);
         })
-    go (Refused r) e f = rw (f, e) H
+    go (Err r) e f = rw (f, e) H
 
 -- ---- the other calls
 
 -- bytes by their length
 five : (d : Device) (input : ℕ) (bytes : List ℕ) (q : Bool)
-    → (received_by (Ao.taken_on d.ao.state input) d.ao.state (Ao.received (cond q (Received.Value (record { bits = word_of (get_or bytes 0 0) (get_or bytes 1 0) (get_or bytes 2 0) (get_or bytes 3 0); status = get_or bytes 4 0 })) (Received.Refused WrongLength)))).answer
-    ≡ cond (not q) (Refused WrongLength) Accepted
+    → (received_by (Ao.taken_on d.ao.state input) d.ao.state (cond q (Ok (record { bits = word_of (get_or bytes 0 0) (get_or bytes 1 0) (get_or bytes 2 0) (get_or bytes 3 0); status = get_or bytes 4 0 })) (Err WrongLength))).answer
+    ≡ cond (not q) (Err WrongLength) granted
 five d input bytes true = refl
 five d input bytes false = refl
 
 two : (d : Device) (input : ℕ) (bytes : List ℕ) (q : Bool)
-    → (received_by (Dout.taken_on d.dout.state input) d.dout.state (Dout.received (cond q (DiscreteReceived.Value (record { value = get_or bytes 0 0; status = get_or bytes 1 0 })) (DiscreteReceived.Refused WrongLength)))).answer
-    ≡ cond (not q) (Refused WrongLength) Accepted
+    → (received_by (Dout.taken_on d.dout.state input) d.dout.state (cond q (Ok (record { value = get_or bytes 0 0; status = get_or bytes 1 0 })) (Err WrongLength))).answer
+    ≡ cond (not q) (Err WrongLength) granted
 two d input bytes true = refl
 two d input bytes false = refl
 
@@ -174,37 +172,37 @@ telegram-ruled h input bytes H = go (to_telegram input bytes) refl
     below : (n : ℕ) → n ≤ 3 → n < 4
     below n s = omega arith
 
-    accepted-is : to_telegram input bytes ≡ Accepted → (input < 4) × (eqb (length bytes) (Rules.telegram_bytes input) ≡ true)
+    accepted-is : to_telegram input bytes ≡ granted → (input < 4) × (eqb (length bytes) (Rules.telegram_bytes input) ≡ true)
     accepted-is = unfold to_telegram in by (ltb 3 input) refl (eqb (length bytes) (Rules.telegram_bytes input))
       where
-        by : (p : Bool) → ltb 3 input ≡ p → (q : Bool) → cond p (Rules.refused 8) (cond (not q) (Rules.refused 7) Accepted) ≡ Accepted → (input < 4) × (q ≡ true)
+        by : (p : Bool) → ltb 3 input ≡ p → (q : Bool) → cond p (Rules.refused 8) (cond (not q) (Rules.refused 7) granted) ≡ granted → (input < 4) × (q ≡ true)
         by true e q t = absurd (refused-other t)
         by false e false t = absurd (refused-other t)
         by false e true t = (below input (ltb-false 3 input e), refl)
 
     go : (x : Answer) → to_telegram input bytes ≡ x → Holds (telegram_of (device_of h) input bytes).device (cond (is_accepted (to_telegram input bytes)) (h ▷ Event.telegram input bytes) h)
-    go Accepted e = rw e (record {
+    go (Ok u) e = rw e (record {
       ruled = ruled-telegram h bytes input (accepted-is e).0 (accepted-is e).1;
       last = unfold given last_out carried in H.last;
       sound = unfold stored latest in H.sound;
       tabled = unfold table Rules.tabled latest in H.tabled;
       ticks = (H.ticks, tt);
     })
-    go (Refused r) e = rw (e, refused-telegram (device_of h) input bytes r (telegram-answer (device_of h) input bytes ∙ e)) H
+    go (Err r) e = rw (e, refused-telegram (device_of h) input bytes r (telegram-answer (device_of h) input bytes ∙ e)) H
 
 load-ruled : (h : History Event) (bytes : List ℕ) → Holds (device_of h) h
     → Holds (load_of (device_of h) bytes).device (cond (is_accepted (to_load h bytes)) (h ▷ loaded bytes) h)
 load-ruled h bytes H = go (to_load h bytes) refl
   where
     go : (x : Answer) → to_load h bytes ≡ x → Holds (load_of (device_of h) bytes).device (cond (is_accepted (to_load h bytes)) (h ▷ loaded bytes) h)
-    go Accepted e = rw e (record {
+    go (Ok u) e = rw e (record {
       ruled = ruled-load h bytes e;
       last = unfold given last_out carried in H.last;
       sound = unfold stored latest in H.sound;
       tabled = loaded-came h bytes e;
       ticks = (H.ticks, tt);
     })
-    go (Refused r) e = rw (e, load-refused (device_of h) bytes r (load-answer h bytes ∙ e)) H
+    go (Err r) e = rw (e, load-refused (device_of h) bytes r (load-answer h bytes ∙ e)) H
 
 tick-ruled : (h : History Event) (fault : Bool) (fed : Fed) → Holds (device_of h) h → Holds (after (device_of h) (tick fault fed)) (h ▷ event (device_of h) (tick fault fed))
 unfolding after event read_of entry_of entry_in Table.ain Table.ao Table.di Table.dout Table.discrete words_of ain_words ao_words di_words dout_words discrete_words stored latest last_out carried
@@ -278,8 +276,8 @@ reached-holds cs fit = run cs factory_device start fit start-holds
 -- ---- answers
 
 write-answer : (d : Device) (block number a b : ℕ) (x : Answer) → (write_by d block number a b x).answer ≡ x
-write-answer d block number a b Accepted = refl
-write-answer d block number a b (Refused r) = refl
+write-answer d block number a b (Ok u) = refl
+write-answer d block number a b (Err r) = refl
 
 next-same : (h : History Event) (c : Call) → has_table (table_of (table h)) ≡ Rules.tabled h → answers (device_of h) c ≡ answer h (event (device_of h) c)
 unfolding event write_of

@@ -1,15 +1,14 @@
 -- The calls of a history and what is seen of them, document 01, Calls on the device and History rules, and document 02, request 1.
 -- Assumes nothing.
-use Rattle.std.specs.Prelude.{ℕ, ◌^◌, Bool, true, ◌&&◌, List, [], ◌∷◌, ltb}
+use Rattle.std.specs.Prelude.{ℕ, ◌^◌, Bool, true, ◌&&◌, List, [], ◌∷◌, ltb, Ok, Err}
 use Rattle.wire.specs.declared.Pair.{Pair}
 use Rattle.wire.specs.declared.Discrete.{Discrete}
 use Rattle.ao.specs.declared.Order.{Order}
 use Rattle.dout.specs.declared.Order.{Order as OrderD}
 use Rattle.parameters.specs.declared.Words.{Words}
 use Rattle.device.specs.declared.Device.{Device}
-use Rattle.device.specs.declared.Ticked.{Ticked}
-use Rattle.device.specs.declared.Reading.{Reading}
-use Rattle.device.specs.declared.Reading.TheVariants.{Read, Refused}
+use Rattle.device.specs.Calls.{Ticked}
+use Rattle.device.specs.Read.{Reading}
 use Rattle.device.specs.Factory.{factory_device}
 use Rattle.device.specs.Read.{read_of}
 use Rattle.device.specs.Calls.{write_of, tick_of, telegram_of, load_of, warm_started}
@@ -63,8 +62,8 @@ abbrev pub words : ℕ → ℕ → Words
 words a b = record { first = a; second = b }
 
 abbrev pub read : Reading → Words
-read (Read w) = w
-read (Refused r) = words 0 0
+read (Ok w) = w
+read (Err r) = words 0 0
 
 -- a tick of a device, and what is seen of it
 abbrev pub ticked_by : Device → Bool → Fed → Ticked

@@ -1,7 +1,7 @@
 -- What the rules cite stands on both sides of the claim. So each cited definition is pinned here, beside A to I, and with them the numbers of answers and
 -- the parts of an image: as a formula for all values, in the kit's operations, and by points worked by hand from documents 01 and 02. The rules' lists are
 -- compared with the table. Code and a cited definition changed together are refused here. Assumes nothing.
-use Rattle.std.specs.Prelude.{ℕ, suc, ◌+◌, ◌-◌, ◌*◌, ◌/◌, ◌%◌, ◌^◌, min, ◌≡◌, Bool, true, false, not, ◌&&◌, ◌||◌, cond, List, [], ◌∷◌, ◌++◌, eqb, leb, ℤ, pos, negsuc, neg_ℤ, ◌+ℤ◌, Float, length, take, drop}
+use Rattle.std.specs.Prelude.{ℕ, suc, ◌+◌, ◌-◌, ◌*◌, ◌/◌, ◌%◌, ◌^◌, min, ◌≡◌, Bool, true, false, not, ◌&&◌, ◌||◌, cond, List, [], ◌∷◌, ◌++◌, eqb, leb, ℤ, pos, negsuc, neg_ℤ, ◌+ℤ◌, Float, length, take, drop, Ok}
 use Rattle.std.proofs.Math.Option.{Option}
 use Rattle.std.specs.Float.{nan, inf, fin, binary32}
 use Rattle.std.specs.Float.Ieee.{of_int, of_bits, to_bits, add, sub, mul, div, le, ne, size, to_signed}
@@ -12,11 +12,8 @@ use Rattle.linearisation.specs.declared.Point.{Point}
 use Rattle.linearisation.specs.Table.{pairs_in}
 use Rattle.wire.specs.declared.Pair.{Pair}
 use Rattle.wire.specs.declared.Discrete.{Discrete}
-use Rattle.wire.specs.declared.Received.{Received}
-use Rattle.wire.specs.declared.DiscreteReceived.{DiscreteReceived}
-use Rattle.wire.specs.Refusal.{answer_number}
+use Rattle.wire.specs.Refusal.{granted, answer_number}
 use Rattle.wire.specs.Status.{quality_of, sub_status_of, limits_of}
-use Rattle.wire.specs.declared.Answer.TheVariants.{Accepted}
 use Rattle.wire.specs.Bytes.{five_bytes, pair_of, two_bytes, discrete_of}
 use Rattle.wire.specs.Image.{part_of, part_place}
 use Rattle.tot.specs.Total.{increment_of, thousandths_of, sum_of, value_given}
@@ -250,10 +247,10 @@ pub record Cited : Type 0 where
   pub single : (n : ℕ) (x : Float) → (float_of n ≡ of_bits binary32 n) × (bits_of x ≡ to_bits binary32 x)
   pub status : (n : ℕ) → (quality_of n ≡ n / 64) × (sub_status_of n ≡ n / 4 % 16) × (limits_of n ≡ n % 4)
   pub sent : (n status : ℕ) → five_bytes (pair n status) ≡ n / 2 ^ 24 ∷ n / 2 ^ 16 % 256 ∷ n / 2 ^ 8 % 256 ∷ n % 256 ∷ status ∷ []
-  pub received : (a b c d status : ℕ) → pair_of (a ∷ b ∷ c ∷ d ∷ status ∷ []) ≡ Received.Value (pair (a * 2 ^ 24 + b * 2 ^ 16 + c * 2 ^ 8 + d) status)
+  pub received : (a b c d status : ℕ) → pair_of (a ∷ b ∷ c ∷ d ∷ status ∷ []) ≡ Ok (pair (a * 2 ^ 24 + b * 2 ^ 16 + c * 2 ^ 8 + d) status)
   -- Q3.4a, Q3.7: those of two bytes
   pub sent_d : (value status : ℕ) → two_bytes (record { value = value; status = status }) ≡ value ∷ status ∷ []
-  pub received_d : (value status : ℕ) → discrete_of (value ∷ status ∷ []) ≡ DiscreteReceived.Value (record { value = value; status = status })
+  pub received_d : (value status : ℕ) → discrete_of (value ∷ status ∷ []) ≡ Ok (record { value = value; status = status })
   -- setpoint 15: f is 11 / 16, and 0.6875 × 12 + 3 is 11.25; closing, 0.3125 × 12 + 3 is 6.75
   pub setpoint : ao_scaled scales (whole 15) ≡ float_of 0x4134_0000
   pub closing : ao_scaled (scales ▷ wrote 3 36 1 0) (whole 15) ≡ float_of 0x40d8_0000
@@ -278,10 +275,10 @@ pub record Cited : Type 0 where
       × (value_given (pos 290) ≡ float_of 0x3e94_7ae1) × (value_given (pos 0) ≡ float_of 0)
   -- bits, bytes, status bytes and the numbers of refusals
   pub bits : (float_of 0x4248_0000 ≡ whole 50) × (bits_of (whole 50) ≡ 0x4248_0000) × (bits_of (float_of 0x8000_0000) ≡ 0x8000_0000)
-  pub bytes : (five_bytes (pair 0x0102_0304 5) ≡ 1 ∷ 2 ∷ 3 ∷ 4 ∷ 5 ∷ []) × (pair_of (1 ∷ 2 ∷ 3 ∷ 4 ∷ 5 ∷ []) ≡ Received.Value (pair 0x0102_0304 5))
+  pub bytes : (five_bytes (pair 0x0102_0304 5) ≡ 1 ∷ 2 ∷ 3 ∷ 4 ∷ 5 ∷ []) × (pair_of (1 ∷ 2 ∷ 3 ∷ 4 ∷ 5 ∷ []) ≡ Ok (pair 0x0102_0304 5))
   pub statuses : (quality_of 0xa3 ≡ 2) × (sub_status_of 0xa3 ≡ 8) × (quality_of 0xc4 ≡ 3) × (sub_status_of 0xc4 ≡ 1)
   -- F1: the number of an answer: that of its ground, 0 if it is accepted
-  pub numbers : (answer_number Accepted ≡ 0) × (numbered 1 ≡ 1) × (numbered 2 ≡ 2) × (numbered 3 ≡ 3) × (numbered 4 ≡ 4) × (numbered 5 ≡ 5)
+  pub numbers : (answer_number granted ≡ 0) × (numbered 1 ≡ 1) × (numbered 2 ≡ 2) × (numbered 3 ≡ 3) × (numbered 4 ≡ 4) × (numbered 5 ≡ 5)
       × (numbered 6 ≡ 6) × (numbered 7 ≡ 7) × (numbered 8 ≡ 8) × (numbered 9 ≡ 9) × (numbered 10 ≡ 10)
   -- Q1.3: eight bytes are a pair, x and then y, and those behind them the next ones; fewer are none
   pub pairs : (a b c d e f g h : ℕ) (s : List ℕ) → pairs_in (a ∷ b ∷ c ∷ d ∷ e ∷ f ∷ g ∷ h ∷ s)

@@ -1,8 +1,7 @@
 -- The claim of demand 3, document 01, History rules: one statement about a whole list of calls, refused ones too, from the factory device. Assumes nothing.
 use Rattle.std.specs.Prelude.{ℕ, ◌≡◌, Bool, ◌&&◌, List, T, eqb}
 use Rattle.std.specs.Float.Ieee.Scale.{finite}
-use Rattle.wire.specs.declared.Answer.{Answer}
-use Rattle.wire.specs.declared.Answer.TheVariants.{Accepted}
+use Rattle.wire.specs.Refusal.{granted, Answer}
 use Rattle.wire.specs.Status.{quality_of}
 use Rattle.wire.specs.Image.{image_answer, image_bytes}
 use Rattle.device.specs.declared.Device.{Device}
@@ -35,11 +34,11 @@ Tick h warmed = Unit
 
 -- what a device answers a call; ticks and warm starts have no answer to refuse with and count as accepted
 abbrev pub answers : Device → Call → Answer
-answers d (tick fault fed) = Accepted
+answers d (tick fault fed) = granted
 answers d (Call.telegram input bytes) = (telegram_of d input bytes).answer
 answers d (write block number a b) = (write_of d block number a b).answer
 answers d (load bytes) = (load_of d bytes).answer
-answers d warm_start = Accepted
+answers d warm_start = granted
 
 -- what is claimed of a list of calls, h being its accepted events
 pub record Claimed (calls : List Call) (h : History Event) : Type 0 where

@@ -7,8 +7,8 @@ use Rattle.std.proofs.Common.{sym, ◌∙◌, subst, true≢false, inl, inr}
 use Rattle.std.proofs.Math.Option.{none, some}
 use Rattle.numbers.specs.Floats.{float_of}
 use Rattle.wire.specs.declared.Pair.{Pair}
+use Rattle.wire.specs.Refusal.{granted}
 use Rattle.wire.specs.declared.Discrete.{Discrete}
-use Rattle.wire.specs.declared.Answer.TheVariants.{Accepted}
 use Rattle.blocks.specs.Common.{actual_mode, operator_after}
 use Rattle.blocks.specs.FailSafe.{by_mode}
 use Rattle.ain.specs.Tick as Ain
@@ -111,7 +111,7 @@ no_move d operated h h' b other f fault m = rw m (ap (λ (p : Pair). position p.
 
 -- Q2.4, no jump: where a write changes the target of AIN, AO, DI or DO to Man from another, a tick without the fault flag then reads as OUT did before both
 pub man-stands : (d : Device) (b : ℕ) (x y : Pair) (z : Discrete) (block : ℕ) → Operated block → eqb (target_in (standing_of d) block) man ≡ false
-    → (write_of d block 5 man b).answer ≡ Accepted
+    → (write_of d block 5 man b).answer ≡ granted
     → read_of (tick_of (write_of d block 5 man b).device false x y z).device block (out_number block) ≡ read_of d block (out_number block)
 unfolding target_in read_of words_of ain_words ao_words di_words dout_words discrete_words entry_of entry_in ain ao di dout discrete tick_of stored_in
     ain_written ao_written di_written dout_written ain_settings ao_settings di_settings dout_settings operator_by entered_by operator_after actual_mode
@@ -122,14 +122,14 @@ man-stands d b x y z =
     (λ other e. rw (stored d 4 5 man b e, other)) (λ other e. rw (stored d 5 5 man b e, other))
   where
     Stands : ℕ → Type 0
-    Stands block = eqb (target_in (standing_of d) block) man ≡ false → (write_of d block 5 man b).answer ≡ Accepted
+    Stands block = eqb (target_in (standing_of d) block) man ≡ false → (write_of d block 5 man b).answer ≡ granted
         → read_of (tick_of (write_of d block 5 man b).device false x y z).device block (out_number block) ≡ read_of d block (out_number block)
 
 -- and the valve, or the sluice, is ordered to stay where it was
 pub man-stays : (d : Device) (b : ℕ) (x y : Pair) (z : Discrete)
-    → (eqb d.ao.settings.target man ≡ false → (write_of d 3 5 man b).answer ≡ Accepted
+    → (eqb d.ao.settings.target man ≡ false → (write_of d 3 5 man b).answer ≡ granted
     → (tick_of (write_of d 3 5 man b).device false x y z).order ≡ Position (float_of d.ao.state.out.bits))
-    × (eqb d.dout.settings.target man ≡ false → (write_of d 5 5 man b).answer ≡ Accepted
+    × (eqb d.dout.settings.target man ≡ false → (write_of d 5 5 man b).answer ≡ granted
     → (tick_of (write_of d 5 5 man b).device false x y z).order_d ≡ OrderD.Position d.dout.state.out.value)
 unfolding tick_of stored_in ao_written dout_written ao_settings dout_settings operator_by entered_by operator_after actual_mode
     Ao.tick_of Ao.ticked_with Ao.given_in

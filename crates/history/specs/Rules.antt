@@ -2,7 +2,7 @@
 -- calls, and OUT of AIN and AO and OUT_D of DI and DO as read after each tick. Every memory and every choice is said here. What is cited of other
 -- crates, arithmetic, encodings and the table's allowed words, is listed in tests/cited and pinned in Cited.
 -- A letter and number before a colon is a sentence of the paper, as docs/TRACE.md counts them. Assumes nothing.
-use Rattle.std.specs.Prelude.{ℕ, ◌+◌, ◌%◌, Bool, true, false, not, ◌&&◌, ◌||◌, cond, List, [], ◌∷◌, ◌++◌, eqb, ltb, ℤ, pos, Float, length, drop}
+use Rattle.std.specs.Prelude.{ℕ, ◌+◌, ◌%◌, Bool, true, false, not, ◌&&◌, ◌||◌, cond, List, [], ◌∷◌, ◌++◌, eqb, ltb, ℤ, pos, Float, length, drop, Result, Ok, Err}
 use Rattle.std.proofs.Math.Option.{Option, none, some}
 use Rattle.std.specs.Int.Signed.{lt_z}
 use Rattle.std.specs.Float.{binary32}
@@ -13,12 +13,10 @@ use Rattle.scaling.specs.declared.Scale.{Scale}
 use Rattle.scaling.specs.Scaling.{fraction_of, at_fraction}
 use Rattle.linearisation.specs.declared.Point.{Point}
 use Rattle.linearisation.specs.Table.{pairs_in}
+use Rattle.wire.specs.declared.Refusal.{Refusal}
 use Rattle.wire.specs.declared.Pair.{Pair}
-use Rattle.wire.specs.declared.Answer.{Answer}
-use Rattle.wire.specs.declared.Answer.TheVariants.{Accepted, Refused}
+use Rattle.wire.specs.Refusal.{granted, Answer}
 use Rattle.wire.specs.declared.Discrete.{Discrete}
-use Rattle.wire.specs.declared.Received.{Received}
-use Rattle.wire.specs.declared.DiscreteReceived.{DiscreteReceived}
 use Rattle.wire.specs.Refusal.{ground}
 use Rattle.wire.specs.Status.{quality_of, sub_status_of}
 use Rattle.wire.specs.Bytes.{five_bytes, pair_of, two_bytes, discrete_of}
@@ -31,8 +29,7 @@ use Rattle.parameters.specs.declared.Entry.{Entry}
 use Rattle.parameters.specs.declared.Entry.TheVariants.{NoBlock, NoParameter, Parameter}
 use Rattle.parameters.specs.Table.{entry_of}
 use Rattle.parameters.specs.Words.{allows_of}
-use Rattle.device.specs.declared.Reading.{Reading}
-use Rattle.device.specs.declared.Reading.TheVariants.{Read}
+use Rattle.device.specs.Read.{Reading}
 use Rattle.history.specs.Past.{History, start, ◌▷◌, count, count_since, since, told, latest, carried}
 use Rattle.history.specs.Calls.{Fed, Seen, Event, ticked, telegram, wrote, loaded, warmed, words}
 
@@ -232,7 +229,7 @@ allowed_in NoParameter a b = false
 allowed_in (Parameter class allowed) a b = allows_of allowed a b
 
 abbrev pub refused : ℕ → Answer
-refused n = Refused (ground n)
+refused n = Err (ground n)
 
 -- Q1.10: LIN_TYPE 1 is written and no table came
 abbrev pub lacks_table : History Event → ℕ → ℕ → ℕ → Bool
@@ -248,7 +245,7 @@ to_write h block number a b =
     (cond (among (read_onlys block) number) (refused 3)
     (cond (eqb (code h 0 18) 0 && not (eqb block 0)) (refused 4)
     (cond (not (allowed_in (entry_of block number) a b && not (lacks_table h block number a))) (refused 5)
-    (cond (among (outputs block) number && not (eqb (code h block 5) man)) (refused 6) Accepted)))))
+    (cond (among (outputs block) number && not (eqb (code h block 5) man)) (refused 6) granted)))))
 
 -- F9, Q3.7: a telegram has five bytes on AO's inputs, 0 and 1, and two on DO's, 2 and 3
 abbrev pub telegram_bytes : ℕ → ℕ
@@ -256,7 +253,7 @@ telegram_bytes input = cond (ltb 1 input) 2 5
 
 -- F2, F9, F10, Q3.8a, Q3.10: a telegram is refused on any other input (8), and then if it has not its input's number of bytes (7)
 unfoldable pub to_telegram : ℕ → List ℕ → Answer
-to_telegram input bytes = cond (ltb 3 input) (refused 8) (cond (not (eqb (length bytes) (telegram_bytes input))) (refused 7) Accepted)
+to_telegram input bytes = cond (ltb 3 input) (refused 8) (cond (not (eqb (length bytes) (telegram_bytes input))) (refused 7) granted)
 
 -- Q1.3, Q1.11: whole pairs of eight bytes, from 2 to 21 of them
 unfoldable pub is_whole : ℕ → Bool
@@ -277,19 +274,19 @@ unfoldable pub to_load : History Event → List ℕ → Answer
 to_load h bytes =
     cond (eqb (code h 0 18) 0) (refused 4)
     (cond (not (is_whole (length bytes))) (refused 9)
-    (cond (not (all_finite (pairs_in bytes) && rising (pairs_in bytes))) (refused 10) Accepted))
+    (cond (not (all_finite (pairs_in bytes) && rising (pairs_in bytes))) (refused 10) granted))
 
 -- what a call is answered, by the events accepted before it; no ground is met by a tick or a warm start
 abbrev pub answer : History Event → Event → Answer
-answer h (ticked fault fed seen) = Accepted
+answer h (ticked fault fed seen) = granted
 answer h (telegram input bytes) = to_telegram input bytes
 answer h (wrote block number a b) = to_write h block number a b
 answer h (loaded bytes) = to_load h bytes
-answer h warmed = Accepted
+answer h warmed = granted
 
 abbrev pub is_accepted : Answer → Bool
-is_accepted Accepted = true
-is_accepted (Refused r) = false
+is_accepted (Ok u) = true
+is_accepted (Err r) = false
 
 -- R3: of all events those that are accepted, each by the accepted ones before it; the others are left out
 unfoldable pub accepted : History Event → History Event
@@ -744,9 +741,9 @@ module _ {A : Type 0} (d : Drive A) where
 -- ---- AO
 
 -- F9: five bytes are a value with a status
-abbrev pub five_as : Received → Option Pair
-five_as (Received.Value p) = some p
-five_as (Received.Refused r) = none
+abbrev pub five_as : Result Pair Refusal → Option Pair
+five_as (Ok p) = some p
+five_as (Err r) = none
 
 -- O9: the working value's place in PV_SCALE, from the other end if INCREASE_CLOSE is 1, as a value in OUT_SCALE
 unfoldable pub ao_scaled : History Event → Float → Float
@@ -787,9 +784,9 @@ order h fault = analog_order (driven analog_out h fault)
 -- ---- DO
 
 -- Q3.7: two bytes are a value with a status
-abbrev pub two_as : DiscreteReceived → Option Pair
-two_as (DiscreteReceived.Value d) = some (pair d.value d.status)
-two_as (DiscreteReceived.Refused r) = none
+abbrev pub two_as : Result Discrete Refusal → Option Pair
+two_as (Ok d) = some (pair d.value d.status)
+two_as (Err r) = none
 
 -- Q3.2b, Q3.7: SP_D is input 2 and RCAS_IN_D is 3. Q3.4b: another setpoint than 0 and 1 counts as one that isn't finite. Q3.5: INVERT exchanges every
 -- working value, FSAFE_VAL_D too; there is always one
@@ -839,13 +836,13 @@ shown h block number =
 -- F2 to F4, Q3.10: a read is refused where there is no such block (1) or parameter (2)
 unfoldable pub reading : History Event → ℕ → ℕ → Reading
 reading h block number =
-    cond (ltb 5 block) (Reading.Refused (ground 1)) (cond (not (has block number)) (Reading.Refused (ground 2)) (Read (shown h block number)))
+    cond (ltb 5 block) (Err (ground 1)) (cond (not (has block number)) (Err (ground 2)) (Ok (shown h block number)))
 
 -- ---- the bus image
 
 -- F9, Q3.9a: a buffer under 19 bytes is refused (7)
 unfoldable pub to_image : List ℕ → Answer
-to_image buffer = cond (ltb (length buffer) 19) (refused 7) Accepted
+to_image buffer = cond (ltb (length buffer) 19) (refused 7) granted
 
 -- a block's discrete pair
 abbrev pub discrete : Pair → Discrete

@@ -9,14 +9,15 @@
 //   4 length (8), that many bytes                         load
 #![tactic(auto)]
 
-ghost use Rattle.std.specs.Prelude.{◌≡◌, ◌+◌, ◌<◌, ◌≤◌, ◌^◌, get_or, take, drop, length};
-ghost use Rattle.history.specs.Encoded.{word_at, pair_at, discrete_at, found, tick_found, write_found, lent_by, telegram_found, load_found, step_at, is_malformed, call_of, Replays, heard};
-ghost use Rattle.history.specs.Calls.{after};
+ghost use Rattle.std.specs.Prelude.{◌≡◌, ◌+◌, ◌<◌, ◌≤◌, ◌^◌, get_or, take, drop, length, IfSome};
+ghost use Rattle.history.specs.Encoded.{word_at, pair_at, discrete_at, tick_found, write_found, lent_by, telegram_found, load_found, step_at, call_of, decoded, Replays, listed, heard};
+ghost use Rattle.history.specs.Calls.{after, reached};
 ghost use Rattle.history.specs.Rules as Rules;
 
 use ao::Order;
-use device::{Device, Reading};
-use wire::{Answer, Discrete, Pair};
+use device::Device;
+use parameters::Words;
+use wire::{Discrete, Pair, Refusal};
 
 // A call as it stands in an encoded list; a telegram by its input and length, a load by its length.
 #[derive(Clone, Copy)]
@@ -26,7 +27,6 @@ pub enum Step {
     Write(u8, u8, u32, u32),
     Telegram(u8, usize),
     Load(usize),
-    Malformed,
 }
 
 // A call, and where the next one starts.
@@ -34,13 +34,6 @@ pub enum Step {
 pub struct Found {
     pub step: Step,
     pub next: usize,
-}
-
-// The device that a list of calls leads to; the factory device where the list is malformed.
-#[derive(Clone, Copy)]
-pub struct Replayed {
-    pub malformed: bool,
-    pub device: Device,
 }
 
 fn byte_at(s: &[u8], at: usize) -> u8
@@ -52,6 +45,7 @@ fn byte_at(s: &[u8], at: usize) -> u8
     0
 }
 
+#[tactic(auto, unfolding(crate::specs::Encoded::word_at))]
 fn word_at(s: &[u8], at: usize) -> u32
     requires { at < 2 ^ 63 }
     ensures { result ≡ word_at s.now at }
@@ -60,7 +54,7 @@ fn word_at(s: &[u8], at: usize) -> u32
     let b = byte_at(s, at + 1);
     let c = byte_at(s, at + 2);
     let d = byte_at(s, at + 3);
-    wire::word(a, b, c, d)
+    u32::from_be_bytes([a, b, c, d])
 }
 
 fn pair_at(s: &[u8], at: usize) -> Pair
@@ -87,143 +81,107 @@ fn discrete_at(s: &[u8], at: usize) -> Discrete
     }
 }
 
-fn malformed(at: usize) -> Found
-    ensures { result ≡ found Step.Malformed at }
-{
-    Found {
-        step: Step::Malformed,
-        next: at,
-    }
-}
-
-fn tick_at(s: &[u8], at: usize) -> Found
+// Each `.._at` gives the call at a place, and none where the bytes are no call.
+#[tactic(auto, unfolding(crate::specs::Encoded::tick_found))]
+fn tick_at(s: &[u8], at: usize) -> Option<Found>
     requires { at < length s.now }
     ensures { result ≡ tick_found s.now at }
 {
-    let left = s.len() - at;
-    if left < 14 {
-        return malformed(at);
+    if s.len() - at < 14 {
+        return None;
     }
     let fault = byte_at(s, at + 1);
+    if 1 < fault {
+        return None;
+    }
     let ain = pair_at(s, at + 2);
     let tot = pair_at(s, at + 7);
     let di = discrete_at(s, at + 12);
-    let set = fault == 1;
-    if 1 < fault {
-        return malformed(at);
-    }
-    Found {
-        step: Step::Tick(set, ain, tot, di),
+    Some(Found {
+        step: Step::Tick(fault == 1, ain, tot, di),
         next: at + 14,
-    }
+    })
 }
 
-fn write_at(s: &[u8], at: usize) -> Found
+#[tactic(auto, unfolding(crate::specs::Encoded::write_found))]
+fn write_at(s: &[u8], at: usize) -> Option<Found>
     requires { at < length s.now }
     ensures { result ≡ write_found s.now at }
 {
-    let left = s.len() - at;
-    if left < 11 {
-        return malformed(at);
+    if s.len() - at < 11 {
+        return None;
     }
     let block = byte_at(s, at + 1);
     let parameter = byte_at(s, at + 2);
     let a = word_at(s, at + 3);
     let b = word_at(s, at + 7);
-    Found {
+    Some(Found {
         step: Step::Write(block, parameter, a, b),
         next: at + 11,
-    }
+    })
 }
 
-// Bytes that a call lends: how many, and whether they are there.
-#[derive(Clone, Copy)]
-pub struct Lent {
-    pub n: usize,
-    pub there: bool,
-}
-
-// The bytes lent by the call at a place, their length standing a head after it.
-fn lent_at(s: &[u8], at: usize, head: usize) -> Lent
+// How many bytes the call at a place lends, their length standing a head after it; none where they are not there.
+#[tactic(auto, unfolding(crate::specs::Encoded::lent_by))]
+fn lent_at(s: &[u8], at: usize, head: usize) -> Option<usize>
     requires { (at < length s.now) × (head < 3) }
     ensures value { result ≡ lent_by s.now at head }
-    ensures n_in_bounds { at + result.n ≤ length s.now }
+    ensures within { IfSome result (λ n. at + n ≤ length s.now) }
 {
     let left = s.len() - at;
     if left < head + 8 {
-        return Lent { n: 0, there: false };
+        return None;
     }
     let high = word_at(s, at + head);
     let low = word_at(s, at + head + 4);
     let n = high as usize * 0x1_0000_0000 + low as usize;
     if left - (head + 8) < n {
-        return Lent { n: 0, there: false };
+        return None;
     }
-    Lent { n: n, there: true }
+    Some(n)
 }
 
-fn telegram_at(s: &[u8], at: usize) -> Found
+#[tactic(auto, unfolding(crate::specs::Encoded::telegram_found))]
+fn telegram_at(s: &[u8], at: usize) -> Option<Found>
     requires { at < length s.now }
     ensures { result ≡ telegram_found s.now at }
 {
-    let lent = lent_at(s, at, 2);
-    let there = lent.there;
-    let n = lent.n;
-    if there {
-        let input = byte_at(s, at + 1);
-        return Found {
-            step: Step::Telegram(input, n),
-            next: at + 10 + n,
-        };
-    }
-    malformed(at)
+    let n = lent_at(s, at, 2)?;
+    let input = byte_at(s, at + 1);
+    Some(Found {
+        step: Step::Telegram(input, n),
+        next: at + 10 + n,
+    })
 }
 
-fn load_at(s: &[u8], at: usize) -> Found
+#[tactic(auto, unfolding(crate::specs::Encoded::load_found))]
+fn load_at(s: &[u8], at: usize) -> Option<Found>
     requires { at < length s.now }
     ensures { result ≡ load_found s.now at }
 {
-    let lent = lent_at(s, at, 1);
-    let there = lent.there;
-    let n = lent.n;
-    if there {
-        return Found {
-            step: Step::Load(n),
-            next: at + 9 + n,
-        };
-    }
-    malformed(at)
+    let n = lent_at(s, at, 1)?;
+    Some(Found {
+        step: Step::Load(n),
+        next: at + 9 + n,
+    })
 }
 
-fn step_at(s: &[u8], at: usize) -> Found
+#[tactic(auto, unfolding(crate::specs::Encoded::step_at))]
+fn step_at(s: &[u8], at: usize) -> Option<Found>
     requires { at < length s.now }
     ensures { result ≡ step_at s.now at }
 {
-    let kind = byte_at(s, at);
-    let warm = kind == 0;
-    let tick = kind == 1;
-    let write = kind == 2;
-    let telegram = kind == 3;
-    let load = kind == 4;
-    if warm {
-        return Found {
+    match byte_at(s, at) {
+        0 => Some(Found {
             step: Step::WarmStart,
             next: at + 1,
-        };
+        }),
+        1 => tick_at(s, at),
+        2 => write_at(s, at),
+        3 => telegram_at(s, at),
+        4 => load_at(s, at),
+        _ => None,
     }
-    if tick {
-        return tick_at(s, at);
-    }
-    if write {
-        return write_at(s, at);
-    }
-    if telegram {
-        return telegram_at(s, at);
-    }
-    if load {
-        return load_at(s, at);
-    }
-    malformed(at)
 }
 
 // n bytes from a place on, or as many as there are.
@@ -239,145 +197,114 @@ fn bytes_at(s: &[u8], from: usize, n: usize) -> &[u8]
     &s[from..from + n]
 }
 
-fn is_malformed(step: Step) -> bool
-    ensures { result ≡ is_malformed step }
-{
-    match step {
-        Step::WarmStart => false,
-        Step::Tick(_, _, _, _) => false,
-        Step::Write(_, _, _, _) => false,
-        Step::Telegram(_, _) => false,
-        Step::Load(_) => false,
-        Step::Malformed => true,
-    }
-}
-
-// The device after the call at a place.
-fn made(d: Device, s: &[u8], at: usize, step: Step) -> Device
+// Makes the call at a place. An answer goes: the calls that follow are judged by the device.
+#[tactic(auto, unfolding(crate::specs::Calls::after))]
+fn make(d: &mut Device, s: &[u8], at: usize, step: Step)
     requires { at < length s.now }
-    ensures { result ≡ after d (call_of s.now at step) }
+    ensures { d.new ≡ after d.old (call_of s.now at step) }
 {
     match step {
-        Step::WarmStart => device::warm_start(d),
+        Step::WarmStart => d.warm_start(),
         Step::Tick(fault, ain, tot, di) => {
-            let ticked = device::tick(d, fault, ain, tot, di);
-            ticked.device
+            d.tick(fault, ain, tot, di);
         }
         Step::Write(block, parameter, a, b) => {
-            let written = device::write(d, block, parameter, a, b);
-            written.device
+            let _ = d.write(block, parameter, a, b);
         }
         Step::Telegram(input, n) => {
-            let bytes = bytes_at(s, at + 10, n);
-            let taken = device::telegram(d, input, bytes);
-            taken.device
+            let _ = d.telegram(input, bytes_at(s, at + 10, n));
         }
         Step::Load(n) => {
-            let bytes = bytes_at(s, at + 9, n);
-            let loaded = device::load(d, bytes);
-            loaded.device
+            let _ = d.load(bytes_at(s, at + 9, n));
         }
-        Step::Malformed => device::warm_start(d),
     }
 }
 
-// Replays an encoded list of calls from the factory device.
-pub fn replay(calls: &[u8]) -> Replayed
+// Replays an encoded list of calls from the factory device; none where the list is malformed.
+pub fn replay(calls: &[u8]) -> Option<Device>
     ensures { Replays calls.now result }
 {
-    let mut device = device::factory();
-    let mut at: usize = 0;
-    let mut left = calls.len();
-    while at < calls.len() {
-        if left == 0 {
-            let fresh = device::factory();
-            return Replayed {
-                malformed: true,
-                device: fresh,
-            };
+    let mut device = Device::factory();
+    let mut at = 0;
+    // Each call has a byte at least.
+    for _ in 0..calls.len() {
+        if calls.len() <= at {
+            break;
         }
-        let found = step_at(calls, at);
-        let step = found.step;
-        let bad = is_malformed(step);
-        if bad {
-            let fresh = device::factory();
-            return Replayed {
-                malformed: true,
-                device: fresh,
-            };
-        }
-        device = made(device, calls, at, step);
+        let found = step_at(calls, at)?;
+        make(&mut device, calls, at, found.step);
         at = found.next;
-        left -= 1;
     }
-    Replayed {
-        malformed: false,
-        device: device,
+    if at < calls.len() {
+        return None;
+    }
+    Some(device)
+}
+
+// The device that a list leads to; a malformed one to the factory device.
+fn device_after(calls: &[u8]) -> Device
+    ensures { result ≡ reached (listed (decoded calls.now)) }
+{
+    match replay(calls) {
+        Some(device) => device,
+        None => Device::factory(),
     }
 }
 
 // ---- what is answered after a list of calls; after a malformed one, what the factory device answers
 
-pub fn read_after(calls: &[u8], block: u8, parameter: u8) -> Reading
+pub fn read_after(calls: &[u8], block: u8, parameter: u8) -> Result<Words, Refusal>
     ensures { result ≡ Rules.reading (heard calls.now) block parameter }
 {
-    let replayed = replay(calls);
-    device::read(replayed.device, block, parameter)
+    device_after(calls).read(block, parameter)
 }
 
 pub fn total_after(calls: &[u8]) -> i64
     ensures { result ≡ Rules.total (heard calls.now) }
 {
-    let replayed = replay(calls);
-    device::total(replayed.device)
+    device_after(calls).total()
 }
 
 // The drive orders of a tick, AO's and DO's.
 pub fn order_after(calls: &[u8], fault: bool, ain: Pair, tot: Pair, di: Discrete) -> Order
     ensures { result ≡ Rules.order (heard calls.now) fault }
 {
-    let replayed = replay(calls);
-    let ticked = device::tick(replayed.device, fault, ain, tot, di);
-    ticked.order
+    let mut device = device_after(calls);
+    device.tick(fault, ain, tot, di).ao
 }
 
 pub fn order_d_after(calls: &[u8], fault: bool, ain: Pair, tot: Pair, di: Discrete) -> dout::Order
     ensures { result ≡ Rules.order_d (heard calls.now) fault }
 {
-    let replayed = replay(calls);
-    let answered = device::tick(replayed.device, fault, ain, tot, di);
-    answered.order_d
+    let mut device = device_after(calls);
+    device.tick(fault, ain, tot, di).dout
 }
 
-pub fn write_after(calls: &[u8], block: u8, parameter: u8, a: u32, b: u32) -> Answer
+pub fn write_after(calls: &[u8], block: u8, parameter: u8, a: u32, b: u32) -> Result<(), Refusal>
     ensures { result ≡ Rules.to_write (heard calls.now) block parameter a b }
 {
-    let replayed = replay(calls);
-    let written = device::write(replayed.device, block, parameter, a, b);
-    written.answer
+    let mut device = device_after(calls);
+    device.write(block, parameter, a, b)
 }
 
-pub fn telegram_after(calls: &[u8], input: u8, bytes: &[u8]) -> Answer
+pub fn telegram_after(calls: &[u8], input: u8, bytes: &[u8]) -> Result<(), Refusal>
     ensures { result ≡ Rules.to_telegram input bytes.now }
 {
-    let replayed = replay(calls);
-    let taken = device::telegram(replayed.device, input, bytes);
-    taken.answer
+    let mut device = device_after(calls);
+    device.telegram(input, bytes)
 }
 
-pub fn load_after(calls: &[u8], bytes: &[u8]) -> Answer
+pub fn load_after(calls: &[u8], bytes: &[u8]) -> Result<(), Refusal>
     ensures { result ≡ Rules.to_load (heard calls.now) bytes.now }
 {
-    let replayed = replay(calls);
-    let loaded = device::load(replayed.device, bytes);
-    loaded.answer
+    let mut device = device_after(calls);
+    device.load(bytes)
 }
 
 // The bus image, from a buffer's first byte on.
-pub fn image_after(calls: &[u8], buf: &mut [u8]) -> Answer
+pub fn image_after(calls: &[u8], buf: &mut [u8]) -> Result<(), Refusal>
     ensures value { result ≡ Rules.to_image buf.old }
     ensures buf_after { buf.new ≡ Rules.image (heard calls.now) buf.old }
 {
-    let replayed = replay(calls);
-    device::image(replayed.device, buf)
+    device_after(calls).image(buf)
 }

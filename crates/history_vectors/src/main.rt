@@ -5,10 +5,9 @@
 #![tactic(auto)]
 
 use ao::Order;
-use device::Reading;
-use history::Replayed;
+use device::Device;
 use std::io;
-use wire::{Answer, Discrete, Pair};
+use wire::{Discrete, Pair, Refusal};
 
 // ---- what a list writes
 
@@ -18,23 +17,24 @@ fn words(rt: &impl Print, a: u32, b: u32) -> io::Result<()> {
 
 // ---- a list of calls, put into a buffer call by call
 
+// Puts bytes at a place, and gives the place after them: the list's length plus 1 where they do not fit. Kept with places:
+// a list has up to 40 calls, and `?` after each call would cost its proof the square of that.
+fn put_bytes(list: &mut [u8], at: usize, bytes: &[u8]) -> usize {
+    if at > list.len() || bytes.len() > list.len() - at {
+        return list.len() + 1;
+    }
+    list[at..at + bytes.len()].copy_from_slice(bytes);
+    at + bytes.len()
+}
+
 fn put_number(list: &mut [u8], at: usize, byte: u8) -> usize {
     let one = [byte];
-    text::put_bytes(list, at, &one)
+    put_bytes(list, at, &one)
 }
 
 // A word, highest byte first.
 fn put_word(list: &mut [u8], at: usize, word: u32) -> usize {
-    let mut five = [0u8; 5];
-    wire::put(
-        &mut five,
-        0,
-        Pair {
-            bits: word,
-            status: 0,
-        },
-    );
-    text::put_bytes(list, at, &five[0..4])
+    put_bytes(list, at, &word.to_be_bytes())
 }
 
 fn put_pair(list: &mut [u8], at: usize, bits: u32, status: u8) -> usize {
@@ -97,7 +97,7 @@ fn telegram(list: &mut [u8], at: usize, input: u8, high: u32, low: u32, bytes: &
     let b = put_number(list, a, input);
     let c = put_word(list, b, high);
     let d = put_word(list, c, low);
-    text::put_bytes(list, d, bytes)
+    put_bytes(list, d, bytes)
 }
 
 // A load whose length is said in two words, and some bytes.
@@ -105,7 +105,7 @@ fn load(list: &mut [u8], at: usize, high: u32, low: u32, bytes: &[u8]) -> usize 
     let a = put_number(list, at, 4);
     let b = put_word(list, a, high);
     let c = put_word(list, b, low);
-    text::put_bytes(list, c, bytes)
+    put_bytes(list, c, bytes)
 }
 
 // (0, 0) and (1, 10), and with them (4, 70) and (7, 100).
@@ -118,13 +118,13 @@ fn weir(list: &mut [u8], at: usize) -> usize {
     let steep = b"\x00\x00\x00\x00\x00\x00\x00\x00\x3f\x80\x00\x00\x41\x20\x00\x00";
     let flat = b"\x40\x80\x00\x00\x42\x8c\x00\x00\x40\xe0\x00\x00\x42\xc8\x00\x00";
     let next = load(list, at, 0, 32, steep);
-    text::put_bytes(list, next, flat)
+    put_bytes(list, next, flat)
 }
 
 // ---- what is asked after a list
 
 // The device after the first bytes of a buffer. The list's line begins; whether it was told malformed is looked at.
-fn replayed(rt: &impl Print, name: &str, list: &[u8], end: usize) -> io::Result<Replayed> {
+fn replayed(rt: &impl Print, name: &str, list: &[u8], end: usize) -> io::Result<Option<Device>> {
     print!(rt; "{name}:")?;
     if end > list.len() {
         print!(rt; " the buffer is too short;")?;
@@ -133,37 +133,33 @@ fn replayed(rt: &impl Print, name: &str, list: &[u8], end: usize) -> io::Result<
     Ok(history::replay(&list[0..end]))
 }
 
-fn formed(rt: &impl Print, r: Replayed) -> io::Result<bool> {
-    let malformed = r.malformed;
-    if malformed {
+fn formed(rt: &impl Print, r: Option<Device>) -> io::Result<bool> {
+    if r.is_none() {
         print!(rt; " told malformed;")?;
-        return Ok(false);
     }
-    Ok(true)
+    Ok(r.is_some())
 }
 
-fn refused(rt: &impl Print, r: Replayed) -> io::Result<bool> {
-    let malformed = r.malformed;
-    if malformed {
-        return Ok(true);
+fn refused(rt: &impl Print, r: Option<Device>) -> io::Result<bool> {
+    if r.is_some() {
+        print!(rt; " not told malformed;")?;
     }
-    print!(rt; " not told malformed;")?;
-    Ok(false)
+    Ok(r.is_none())
 }
 
 // A read that the paper answers with two words.
 fn reads(
     rt: &impl Print,
     good: bool,
-    r: Replayed,
+    r: Option<Device>,
     block: u8,
     parameter: u8,
     a: u32,
     b: u32,
 ) -> io::Result<bool> {
-    let reading = device::read(r.device, block, parameter);
-    match reading {
-        Reading::Read(w) => {
+    // A malformed list hands no device back: the factory device answers then.
+    match r.unwrap_or(Device::factory()).read(block, parameter) {
+        Ok(w) => {
             let first = w.first;
             let second = w.second;
             let same = (first == a) & (second == b);
@@ -177,7 +173,7 @@ fn reads(
             print!(rt; ";")?;
             Ok(false)
         }
-        Reading::Refused(_) => {
+        Err(_) => {
             differs(rt, block, parameter)?;
             print!(rt; "no words;")?;
             Ok(false)
@@ -190,7 +186,7 @@ fn differs(rt: &impl Print, block: u8, parameter: u8) -> io::Result<()> {
 }
 
 // Outputs and actual modes of a device that has not ticked yet: O/S, 0 with 0x1F.
-fn reads_started(rt: &impl Print, good: bool, r: Replayed) -> io::Result<bool> {
+fn reads_started(rt: &impl Print, good: bool, r: Option<Device>) -> io::Result<bool> {
     let g = reads(rt, good, r, 1, 6, 0x80, 0)?;
     let g = reads(rt, g, r, 1, 10, 0, 0x1f)?;
     let g = reads(rt, g, r, 2, 6, 0x80, 0)?;
@@ -204,7 +200,7 @@ fn reads_started(rt: &impl Print, good: bool, r: Replayed) -> io::Result<bool> {
 }
 
 // All that the factory device reads: the defaults in brackets, ST_REVs and alarms 0.
-fn reads_factory(rt: &impl Print, good: bool, r: Replayed) -> io::Result<bool> {
+fn reads_factory(rt: &impl Print, good: bool, r: Option<Device>) -> io::Result<bool> {
     let g = reads_started(rt, good, r)?;
     let g = reads(rt, g, r, 0, 18, 2457, 0)?;
     let g = reads_ain(rt, g, r)?;
@@ -228,7 +224,7 @@ fn reads_factory(rt: &impl Print, good: bool, r: Replayed) -> io::Result<bool> {
 }
 
 // What DI and DO have alike: target Auto, all else 0.
-fn reads_discrete(rt: &impl Print, good: bool, r: Replayed, block: u8) -> io::Result<bool> {
+fn reads_discrete(rt: &impl Print, good: bool, r: Option<Device>, block: u8) -> io::Result<bool> {
     let g = reads(rt, good, r, block, 1, 0, 0)?;
     let g = reads(rt, g, r, block, 5, 0x08, 0)?;
     let g = reads(rt, g, r, block, 15, 0, 0)?;
@@ -236,7 +232,7 @@ fn reads_discrete(rt: &impl Print, good: bool, r: Replayed, block: u8) -> io::Re
     reads(rt, g, r, block, 21, 0, 0)
 }
 
-fn reads_ain(rt: &impl Print, good: bool, r: Replayed) -> io::Result<bool> {
+fn reads_ain(rt: &impl Print, good: bool, r: Option<Device>) -> io::Result<bool> {
     let g = reads(rt, good, r, 1, 1, 0, 0)?;
     let g = reads(rt, g, r, 1, 5, 0x08, 0)?;
     let g = reads(rt, g, r, 1, 7, 0, 0)?;
@@ -692,7 +688,12 @@ fn man_entered_discrete(rt: &impl Print) -> io::Result<()> {
 
 // ---- answers after a list
 
-fn numbered(rt: &impl Print, name: &str, answer: Answer, number: u8) -> io::Result<()> {
+fn numbered(
+    rt: &impl Print,
+    name: &str,
+    answer: Result<(), Refusal>,
+    number: u8,
+) -> io::Result<()> {
     let n = wire::answer_number(answer);
     print!(rt; "{name}:")?;
     if n == number {
@@ -811,11 +812,11 @@ fn total_after(rt: &impl Print) -> io::Result<()> {
     let reading = history::read_after(first(&list, at), 1, 19);
     print!(rt; "a read of 1, 19 after a list:")?;
     match reading {
-        Reading::Read(w) => {
+        Ok(w) => {
             let hysteresis = w.first;
             end(rt, hysteresis == 0x3f00_0000)
         }
-        Reading::Refused(_) => end(rt, false),
+        Err(_) => end(rt, false),
     }
 }
 
@@ -951,7 +952,7 @@ fn good_then_malformed(rt: &impl Print) -> io::Result<()> {
     let mut list = [0u8; 128];
     let at = write(&mut list, 0, 1, 5, 0x10, 0);
     let at = tick(&mut list, at, 0x4248_0000);
-    let at = text::put_bytes(&mut list, at, b"\x05");
+    let at = put_bytes(&mut list, at, b"\x05");
     malformed(rt, "malformed after a write and a tick", &list, at)?;
     let at = warm_start(&mut list, at);
     malformed(rt, "malformed between good calls", &list, at)

@@ -1,9 +1,9 @@
 -- Laws of tables and of the values by them. Assumes nothing.
-use Prim.Native.Nat.{ℕ, zero, suc, ◌+◌, ◌*◌, ◌-◌, ◌/◌, ◌%◌, ◌≤◌, ◌<◌, min}
+use Prim.Native.Nat.{ℕ, zero, suc, ◌+◌, ◌*◌, ◌-◌, ◌/◌, ◌%◌, ◌≤◌, ◌<◌}
 use native.Mathlib.Omega.{arith}
-use Rattle.std.specs.Prelude.{◌≡◌, refl, Bool, true, false, not, ◌&&◌, ◌||◌, cond, T, eqb, leb, length, get_or, drop, replicate, set, Float}
+use Rattle.std.specs.Prelude.{◌≡◌, refl, Bool, true, false, not, ◌&&◌, ◌||◌, cond, T, eqb, leb, length, get_or, drop, replicate, set, Float, Ok, Err}
 use Rattle.std.proofs.Math.Path.{sym, ap}
-use Rattle.std.proofs.Common.{◌∙◌, subst, leb→le, length-append, length-take, take-append-drop, drop_of_length-le, take-suc, drop-cons, drop-drop, get_or-take, get_or-drop}
+use Rattle.std.proofs.Common.{drop-drop, ◌∙◌, subst, leb→le, length-append, length-take, take-suc}
 use mathlib.Core.List.{List, [], ◌∷◌, ◌++◌, append_assoc}
 use Rattle.std.specs.Float.Ieee.Fits.{and_l, and_r}
 use Rattle.std.proofs.Math.ListN.{take}
@@ -12,23 +12,14 @@ use Rattle.std.proofs.Math.Seq.{take-append_seam, drop-append_seam}
 use Rattle.std.specs.Float.{nan, inf, fin, binary32}
 use Rattle.std.specs.Float.Ieee.{of_bits, lt, le, eq}
 use Rattle.std.specs.Float.Ieee.Scale.{finite}
-use Rattle.numbers.specs.Floats.{float_of}
 use Rattle.numbers.specs.FloatLaws.{finite_number}
 use Rattle.numbers.specs.Order.{le-refl-number, le_trans, lt-le}
-use Rattle.wire.specs.declared.Answer.{Answer}
-use Rattle.wire.specs.declared.Answer.TheVariants.{Accepted}
-use Rattle.wire.specs.declared.Refusal.{Refusal}
-use Rattle.wire.specs.Bytes.{word_of}
 use Rattle.wire.specs.Refusal.{ground}
 use Rattle.linearisation.specs.declared.Point.{Point}
 use Rattle.linearisation.specs.declared.Table.{Table}
 use Rattle.linearisation.specs.Table.{zero_point, padded, table_of, pairs_of, pair_from, pairs_from, pairs_in}
-use Rattle.linearisation.specs.Table.{whole_pairs, follow, allowed, refused_as, loaded_of}
-use Rattle.linearisation.specs.Value.{or_here, used_on, between, first_y, by_used, value_at}
-
-pub turned : (b : Bool) → not b ≡ false → b ≡ true
-turned true e = refl
-turned false e = sym e
+use Rattle.linearisation.specs.Table.{whole_pairs, follow, allowed, loaded_of}
+use Rattle.linearisation.specs.Value.{or_here, used_on, between, value_at}
 
 -- what the logic has for a place of an array that nothing was written to
 abbrev pub unwritten : Point
@@ -54,12 +45,6 @@ pair-at (suc n) s (suc i) z h =
     pair-at n (drop 8 s) i z (omega arith) ∙ ap pair_from (drop-drop (8 * i) 8 s ∙ ap (λ (k : ℕ). drop k s) e)
 
 -- the pair of the eight bytes from a place on
-pub pair-from : (s : List ℕ) (k : ℕ) → pair_from (drop k s) ≡ record {
-  x = float_of (word_of (get_or s k 0) (get_or s (k + 1) 0) (get_or s (k + 2) 0) (get_or s (k + 3) 0));
-  y = float_of (word_of (get_or s (k + 4) 0) (get_or s (k + 5) 0) (get_or s (k + 6) 0) (get_or s (k + 7) 0));
-}
-pair-from s k = let e : k + 0 ≡ k = omega arith in simp (get_or-drop, e)
-
 pub pair-in : (s : List ℕ) (i : ℕ) (z : Point) → 8 * i + 8 ≤ length s → get_or (pairs_in s) i z ≡ pair_from (drop (8 * i) s)
 unfolding pairs_in
 pair-in s i z h = pair-at (length s / 8) s i z (omega arith)
@@ -83,10 +68,6 @@ pub and-true : (b : Bool) → (b && true) ≡ b
 and-true true = refl
 and-true false = refl
 
-and_assoc : (a b c : Bool) → (a && (b && c)) ≡ (a && b && c)
-and_assoc true b c = refl
-and_assoc false b c = refl
-
 -- whatever is finite lies above minus infinity, so the first pair may follow it
 pub above-all : (x : Float) → finite x ≡ true → lt (of_bits binary32 0xff80_0000) x ≡ true
 unfolding of_bits lt
@@ -103,12 +84,6 @@ follow-first (p ∷ ps) = go (finite p.x) refl
         → (b && finite p.y && lt (of_bits binary32 0xff80_0000) p.x && follow p.x ps) ≡ (b && finite p.y && follow p.x ps)
     go true e = rw (above-all p.x e, and-true (finite p.y))
     go false e = refl
-
--- one pair more
-pub follow-more : (good : Bool) (before : Float) (ps : List Point) (i : ℕ) (z : Point) → i < length ps
-    → (good && finite (get_or ps i z).x && finite (get_or ps i z).y && lt before (get_or ps i z).x && follow (get_or ps i z).x (drop (suc i) ps))
-    ≡ (good && follow before (drop i ps))
-follow-more good before ps i z h = rw (drop-cons ps i z h) (unfold follow in simp and_assoc)
 
 -- ---- whole pairs
 
@@ -128,64 +103,6 @@ unfolding used_on
 used-behind x [] rest q qs e = e
 used-behind x (p ∷ front) rest q qs e = rw (used-behind x front rest q qs e)
 
-pub used-here : (x : Float) (p : Point) (rest : List Point) → used_on x rest ≡ [] → used_on x (p ∷ rest) ≡ cond (le p.x x) (p ∷ rest) []
-unfolding used_on
-used-here x p rest e = rw e
-
--- a search from the last place down, in the places of a table
-module _ (points : List Point) (count : ℕ) (full : length points ≡ 21) (z : Point) (x : Float) (f : finite x ≡ true) where
-  abbrev ps : List Point
-  ps = take count points
-
-  held : length ps ≡ min count 21
-  held = length-take count points ∙ ap (min count) full
-
-  -- from a place on
-  on : (i : ℕ) → i < min count 21 → drop i ps ≡ get_or points i z ∷ drop (suc i) ps
-  on i h = drop-cons ps i z (omega (arith, held)) ∙ ap (λ (p : Point). p ∷ drop (suc i) ps) (get_or-take count points i z (omega arith))
-
-  found : (i : ℕ) → i < min count 21 → used_on x (drop (suc i) ps) ≡ [] → le (get_or points i z).x x ≡ true
-      → used_on x ps ≡ get_or points i z ∷ drop (suc i) ps
-  found i h none l =
-      ap (used_on x) (sym (take-append-drop i ps))
-      ∙ used-behind x (take i ps) (drop i ps) (get_or points i z) (drop (suc i) ps)
-      (ap (used_on x) (on i h) ∙ used-here x (get_or points i z) (drop (suc i) ps) none ∙ ap (λ (b : Bool). cond b (get_or points i z ∷ drop (suc i) ps) []) l)
-
-  given : (used : List Point) → used_on x ps ≡ used → value_at ps x ≡ by_used ps used x
-  unfolding value_at
-  given used e = rw (f, e)
-
-  pub found-last : (i : ℕ) → suc i ≡ min count 21 → used_on x (drop (suc i) ps) ≡ [] → le (get_or points i z).x x ≡ true
-      → (get_or points i z).y ≡ value_at ps x
-  found-last i h none l =
-      sym (given (get_or points i z ∷ []) (found i (omega arith) none l
-      ∙ ap (λ (r : List Point). get_or points i z ∷ r) (drop_of_length-le ps {i = suc i} (omega (arith, held)))))
-
-  pub found-inner : (i : ℕ) → suc i < min count 21 → used_on x (drop (suc i) ps) ≡ [] → le (get_or points i z).x x ≡ true
-      → between (get_or points i z) (get_or points (suc i) z) x ≡ value_at ps x
-  found-inner i h none l =
-      sym (given (get_or points i z ∷ get_or points (suc i) z ∷ drop (suc (suc i)) ps)
-      (found i (omega arith) none l ∙ ap (λ (r : List Point). get_or points i z ∷ r) (on (suc i) h)))
-
-  pub passed : (i : ℕ) → i < min count 21 → used_on x (drop (suc i) ps) ≡ [] → le (get_or points i z).x x ≡ false → used_on x (drop i ps) ≡ []
-  passed i h none l =
-      ap (used_on x) (on i h) ∙ used-here x (get_or points i z) (drop (suc i) ps) none
-      ∙ ap (λ (b : Bool). cond b (get_or points i z ∷ drop (suc i) ps) []) l
-
-  pub none_yet : used_on x (drop (min count 21) ps) ≡ []
-  unfolding used_on
-  none_yet = rw (drop_of_length-le ps {i = min count 21} (omega (arith, held)))
-
-  pub no_pairs : min count 21 ≡ 0 → x ≡ value_at ps x
-  unfolding used_on
-  no_pairs h =
-      let c : count ≡ 0 = omega arith in
-      let e : ps ≡ [] = ap (λ (n : ℕ). take n points) c in
-      sym (given (used_on x []) (ap (used_on x) e) ∙ ap (λ (r : List Point). first_y r x) e)
-
-  pub before-first : 0 < min count 21 → used_on x (drop 0 ps) ≡ [] → (get_or points 0 z).y ≡ value_at ps x
-  before-first h none = sym (given [] none ∙ ap (λ (r : List Point). first_y r x) (on 0 h))
-
 -- ---- what holds of every table that is made
 
 -- Q1.3, Q1.11: from 2 to 21 pairs, allowed ones, in the first of 21 places, and zeros after them
@@ -195,12 +112,9 @@ pub record Valid (t : Table) : Type 0 where
   pub rising : allowed (pairs_of t) ≡ true
   pub rest : drop t.count t.points ≡ replicate (21 - t.count) zero_point
 
-answered : {r : Refusal} → Answer.Refused r ≡ Accepted → ⊥
-answered e = let z : ◌≡◌ {A = ℕ} 0 1 = cc in omega arith
-
-pub made-valid : (s : List ℕ) → (loaded_of s).answer ≡ Accepted → Valid (loaded_of s).table
+pub made-valid : (s : List ℕ) (t : Table) → loaded_of s ≡ Ok t → Valid t
 unfolding loaded_of
-made-valid s = go (whole_pairs (length s)) refl (allowed (pairs_in s)) refl
+made-valid s t = go (whole_pairs (length s)) refl (allowed (pairs_in s)) refl
   where
     ps : List Point
     ps = pairs_in s
@@ -208,12 +122,8 @@ made-valid s = go (whole_pairs (length s)) refl (allowed (pairs_in s)) refl
     bounds : whole_pairs (length s) ≡ true → (2 ≤ length ps) × (length ps ≤ 21)
     bounds w = let b = whole-pairs (length s) w in (omega (arith, b.0, many s), omega (arith, b.1, many s))
 
-    go : (w : Bool) → whole_pairs (length s) ≡ w → (a : Bool) → allowed ps ≡ a
-        → (cond (not w) (refused_as (ground 9)) (cond (not a) (refused_as (ground 10)) (record { table = table_of ps; answer = Accepted }))).answer ≡ Accepted
-        → Valid (cond (not w) (refused_as (ground 9)) (cond (not a) (refused_as (ground 10)) (record { table = table_of ps; answer = Accepted }))).table
-    go false w a v e = absurd (answered e)
-    go true w false v e = absurd (answered e)
-    go true w true v e =
+    valid : whole_pairs (length s) ≡ true → allowed ps ≡ true → Valid (table_of ps)
+    valid w v =
         let b = bounds w in
         record {
           places = simp (length-append, length-replicate) (omega (arith, b.1));
@@ -221,6 +131,12 @@ made-valid s = go (whole_pairs (length s)) refl (allowed (pairs_in s)) refl
           rising = ap allowed (pairs-back ps) ∙ v;
           rest = drop-append_seam ps (replicate (21 - length ps) zero_point);
         }
+
+    go : (w : Bool) → whole_pairs (length s) ≡ w → (a : Bool) → allowed ps ≡ a
+        → cond (not w) (Err (ground 9)) (cond (not a) (Err (ground 10)) (Ok (table_of ps))) ≡ Ok t → Valid t
+    go false w a v e = cc
+    go true w false v e = cc
+    go true w true v e = let same : table_of ps ≡ t = cc in subst Valid same (valid w v)
 
 -- ---- what holds of the pair used
 

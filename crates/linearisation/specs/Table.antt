@@ -1,15 +1,13 @@
 -- The linearisation table, document 02, request 1: which bytes stand for one, and the one form that it has. Assumes nothing.
-use Rattle.std.specs.Prelude.{ℕ, zero, suc, ◌-◌, ◌/◌, ◌%◌, Bool, true, not, ◌&&◌, cond, List, [], ◌∷◌, ◌++◌, eqb, leb, length, get_or, take, drop, replicate, Float}
+use Rattle.std.specs.Prelude.{ℕ, zero, suc, ◌-◌, ◌/◌, ◌%◌, Bool, true, not, ◌&&◌, cond, List, [], ◌∷◌, ◌++◌, eqb, leb, length, get_or, take, drop, replicate, Float, Result, Ok, Err}
 use Rattle.std.specs.Float.Ieee.{lt}
 use Rattle.std.specs.Float.Ieee.Scale.{finite}
 use Rattle.numbers.specs.Floats.{float_of}
-use Rattle.wire.specs.declared.Answer.{Answer}
 use Rattle.wire.specs.declared.Refusal.{Refusal}
 use Rattle.wire.specs.Bytes.{word_of}
 use Rattle.wire.specs.Refusal.{ground}
 use Rattle.linearisation.specs.declared.Point.{Point}
 use Rattle.linearisation.specs.declared.Table.{Table}
-use Rattle.linearisation.specs.declared.Loaded.{Loaded}
 
 -- ---- the form of a table
 
@@ -65,12 +63,8 @@ unfoldable pub allowed : List Point → Bool
 allowed [] = true
 allowed (p ∷ ps) = finite p.x && finite p.y && follow p.x ps
 
-abbrev pub refused_as : Refusal → Loaded
-refused_as r = record { table = no_table; answer = Answer.Refused r }
-
 -- Q1.11: bytes are refused as no 2 to 21 whole pairs (9), then as pairs that are not allowed (10)
-unfoldable pub loaded_of : List ℕ → Loaded
+unfoldable pub loaded_of : List ℕ → Result Table Refusal
 loaded_of s =
-    cond (not (whole_pairs (length s))) (refused_as (ground 9))
-    (cond (not (allowed (pairs_in s))) (refused_as (ground 10))
-    (record { table = table_of (pairs_in s); answer = Answer.Accepted }))
+    cond (not (whole_pairs (length s))) (Err (ground 9))
+    (cond (not (allowed (pairs_in s))) (Err (ground 10)) (Ok (table_of (pairs_in s))))

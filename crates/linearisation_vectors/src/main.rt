@@ -4,12 +4,10 @@
 // at or below the value, the quotient before the product, an end's y computed and not given, a value not finite changed.
 #![tactic(auto)]
 
-ghost use Rattle.std.specs.Prelude.{◌≤◌};
-
-use linearisation::{Loaded, Table};
+use linearisation::Table;
 use numbers::floats::{bits_of, float_of};
 use std::io;
-use wire::Pair;
+use wire::Refusal;
 
 fn title(rt: &impl Print, text: &str) -> io::Result<()> {
     println!(rt; "{text}")
@@ -17,9 +15,9 @@ fn title(rt: &impl Print, text: &str) -> io::Result<()> {
 
 // ---- bytes
 
-// Four bytes from a place on, the highest first. The byte after them becomes 0.
+// Four bytes from a place on, the highest first.
 fn put_word(bytes: &mut [u8], at: usize, bits: u32) {
-    wire::put(bytes, at, Pair { bits, status: 0 });
+    let _ = wire::put(bytes, at, bits.to_be_bytes());
 }
 
 // 23 pairs: x is 1, 2, .. subnormal steps, y 256 times as many. A byte follows them.
@@ -33,55 +31,40 @@ fn rising() -> [u8; 185] {
     bytes
 }
 
-fn two_pairs(x0: u32, y0: u32, x1: u32, y1: u32) -> Loaded {
+fn two_pairs(x0: u32, y0: u32, x1: u32, y1: u32) -> Result<Table, Refusal> {
     let mut bytes = [0u8; 17];
     put_word(&mut bytes, 0, x0);
     put_word(&mut bytes, 4, y0);
     put_word(&mut bytes, 8, x1);
     put_word(&mut bytes, 12, y1);
-    linearisation::table_of(&bytes[0..16])
+    Table::try_from(&bytes[0..16])
+}
+
+fn table_of(bytes: &[u8]) -> Table {
+    Table::try_from(bytes).unwrap_or_default()
 }
 
 fn table(x0: u32, y0: u32, x1: u32, y1: u32) -> Table {
-    let loaded = two_pairs(x0, y0, x1, y1);
-    loaded.table
+    two_pairs(x0, y0, x1, y1).unwrap_or_default()
 }
 
 // ---- tables of bytes
 
-// Whether a place of a table holds zeros.
-fn is_zero(table: Table, i: usize) -> bool {
-    if i < 21 {
-        let p = table.points[i];
-        return (bits_of(p.x) == 0) & (bits_of(p.y) == 0);
-    }
-    false
-}
-
-fn one_if(flag: bool) -> u64
-    ensures { result ≤ 1 }
-{
-    if flag {
-        return 1;
-    }
-    0
-}
-
 // How many places of a table hold zeros.
-fn zeros(table: Table) -> u64 {
-    let mut n = 0;
-    for i in 0..21 {
-        n += one_if(is_zero(table, i));
-    }
-    n
+fn zeros(table: Table) -> usize {
+    table
+        .points
+        .iter()
+        .filter(|p| bits_of(p.x) == 0 && bits_of(p.y) == 0)
+        .count()
 }
 
 // The answer's number, and how many pairs the table has.
-fn print_loaded(rt: &impl Print, loaded: Loaded) -> io::Result<()> {
-    let answer = loaded.answer;
-    let table = loaded.table;
-    let number = wire::answer_number(answer);
-    let count = table.count;
+fn print_loaded(rt: &impl Print, loaded: Result<Table, Refusal>) -> io::Result<()> {
+    let (number, count) = match loaded {
+        Ok(table) => (0, table.count),
+        Err(refusal) => (refusal.number(), 0),
+    };
     print!(rt; ": {number} {count}")
 }
 
@@ -91,8 +74,8 @@ fn load(rt: &impl Print, length: usize) -> io::Result<()> {
     if length > 185 {
         return Ok(());
     }
-    let loaded = linearisation::table_of(&bytes[0..length]);
-    let zeros = zeros(loaded.table);
+    let loaded = Table::try_from(&bytes[0..length]);
+    let zeros = zeros(loaded.unwrap_or_default());
     print!(rt; "{length}")?;
     print_loaded(rt, loaded)?;
     println!(rt; " {zeros}")
@@ -125,7 +108,7 @@ fn last(rt: &impl Print, x: u32) -> io::Result<()> {
     let mut bytes = rising();
     put_word(&mut bytes, 160, x);
     print!(rt; "{x:08x}")?;
-    print_loaded(rt, linearisation::table_of(&bytes[0..168]))?;
+    print_loaded(rt, Table::try_from(&bytes[0..168]))?;
     println!(rt)
 }
 
@@ -161,16 +144,15 @@ fn contents(rt: &impl Print) -> io::Result<()> {
 // ---- values by a table
 
 fn value(rt: &impl Print, table: Table, bits: u32) -> io::Result<()> {
-    let given = bits_of(linearisation::linearised(table, float_of(bits)));
+    let given = bits_of(table.value_at(float_of(bits)));
     println!(rt; "{bits:08x}: {given:08x}")
 }
 
 fn weir(rt: &impl Print) -> io::Result<()> {
     title(rt, "pairs 0 0, 1 10, 4 70, 7 100")?;
-    let loaded = linearisation::table_of(
+    let t = table_of(
         b"\x00\x00\x00\x00\x00\x00\x00\x00\x3f\x80\x00\x00\x41\x20\x00\x00\x40\x80\x00\x00\x42\x8c\x00\x00\x40\xe0\x00\x00\x42\xc8\x00\x00",
     );
-    let t = loaded.table;
     // at the first x (a zero of either sign), the inner ones, the last
     value(rt, t, 0x00000000)?;
     value(rt, t, 0x80000000)?;
@@ -246,8 +228,7 @@ fn subnormals(rt: &impl Print) -> io::Result<()> {
 fn all_places(rt: &impl Print) -> io::Result<()> {
     title(rt, "21 pairs")?;
     let bytes = rising();
-    let loaded = linearisation::table_of(&bytes[0..168]);
-    let t = loaded.table;
+    let t = table_of(&bytes[0..168]);
     value(rt, t, 0x00000001)?;
     value(rt, t, 0x00000000)?;
     value(rt, t, 0x0000000b)?;

@@ -17,11 +17,6 @@ abbrev pub bound : ℤ → ℕ
 bound (pos n) = n
 bound (negsuc n) = 0
 
--- a number, or the end of an i64 that it lies beyond
-unfoldable pub saturated : ℤ → ℤ
-saturated (pos a) = pos (min a (2 ^ 63 - 1))
-saturated (negsuc a) = negsuc (min a (2 ^ 63 - 1))
-
 -- T10: the bits below the w highest, counted from the leading one, are cleared
 unfoldable pub highest_bits : ℕ → ℕ → ℕ
 highest_bits w m = m / 2 ^ (size m - w) * 2 ^ (size m - w)

@@ -3,6 +3,7 @@
 use Rattle.std.specs.Prelude.{◌≡◌, ℕ, zero, suc, ◌+◌, ◌-◌, ◌*◌, ◌/◌, ◌^◌, ◌<◌, ◌≤◌, min, Bool, true, false, cond, not, T, ℤ, pos, negsuc, ◌+ℤ◌, ◌-ℤ◌, neg_ℤ, ◌≤ℤ◌, int_le, nat_lt, unsigned_abs, refl, Float}
 use Rattle.std.proofs.Common.{sym, ap, ◌∙◌, subst, true≢false, zero-le, le_trans, le_of_eq, lt_of_lt_of_le, lt_of_le_of_lt, zero-lt-suc, mul-one, mul_assoc, div-one, le-div_iff_mul-le, mul-pos, not-le_of_lt, lt_irrefl, lt_of_not-le, one-mul, zero-mul, arith, le→leb, leb→le, ltb→lt, nltb→le, lit≤, lit<, pow-add, pow_pos, pow_mono, shl_lt}
 use Rattle.std.proofs.Math.IntN.{sub_ℕ, +ℤ_assoc, +ℤ_comm, +ℤ_idl, +ℤ_invr, neg_ℤ-+ℤ}
+use Rattle.std.specs.Int.{w64, saturate_signed}
 use Rattle.std.specs.Int.Signed.{mag, non_neg}
 use Rattle.std.specs.Float.{nan, inf, fin, Format, binary32, binary64}
 use Rattle.std.specs.Float.Ieee.{prec, emax, low, up, down, size, round, odd, units, neg, le, of_int, to_signed}
@@ -12,7 +13,7 @@ use Rattle.std.specs.Float.Ieee.Exact.{HasValue, round_exact}
 use Rattle.std.specs.Float.Ieee.Order.{round_mono, kept, drop}
 use Rattle.std.specs.Float.Ieee.Scale.{finite}
 use Rattle.numbers.specs.Order.{signed_le, round-neg, cut-mono}
-use Rattle.numbers.specs.Whole.{cut_of, limit, bound, saturated, highest_bits, highest24, highest24ℤ}
+use Rattle.numbers.specs.Whole.{cut_of, limit, bound, highest_bits, highest24, highest24ℤ}
 
 -- ---- differences
 
@@ -78,8 +79,8 @@ pub bound-small : (n : ℤ) → mag n < 2 ^ 63 → bound n < 2 ^ 63
 bound-small (pos n) h = h
 bound-small (negsuc n) h = lit< tt
 
-pub limit-saturated : (n : ℕ) (z : ℤ) → n < 2 ^ 63 → limit n (saturated z) ≡ limit n z
-unfolding limit saturated
+pub limit-saturated : (n : ℕ) (z : ℤ) → n < 2 ^ 63 → limit n (saturate_signed w64 z) ≡ limit n z
+unfolding limit
 limit-saturated n (pos a) h = ap pos (omega arith)
 limit-saturated n (negsuc a) h = ap (λ (x : ℕ). neg_ℤ (pos x)) (same a n h)
   where

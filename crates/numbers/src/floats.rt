@@ -8,42 +8,37 @@ ghost use Rattle.numbers.specs.Floats.{float_of, bits_of, within, finite_or};
 pub fn float_of(bits: u32) -> f32
     ensures { result ≡ float_of bits }
 {
-    let nan = bits % 0x8000_0000 > 0x7f80_0000;
-    if nan {
-        return 0.0 / 0.0;
-    }
-    f32::from_bits(bits)
+    std::num::f32_from_bits_with_nan(bits)
 }
 
 // The bits of a single; 0x7FC00000 for a NaN.
 pub fn bits_of(x: f32) -> u32
     ensures { result ≡ bits_of x }
 {
-    if x != x {
-        return 0x7fc0_0000;
-    }
-    f32::to_bits(x)
+    std::num::f32_to_bits_with_nan(x)
 }
 
+#[tactic(auto, using(crate::proofs::Tests::same_test))]
 pub fn is_finite(x: f32) -> bool
     ensures { result ≡ finite x }
 {
-    (-1.0 / 0.0 < x) & (x < 1.0 / 0.0)
+    x.is_finite()
 }
 
-// Finite or that infinity: the range of a limit.
+// Finite or that infinity: the range of a limit. An enum would be no plainer: the flag is the infinity's sign bit.
 pub fn is_finite_or(x: f32, negative: bool) -> bool
     ensures { result ≡ finite_or negative x }
 {
     if negative {
-        return x < 1.0 / 0.0;
+        x < f32::INFINITY
+    } else {
+        f32::NEG_INFINITY < x
     }
-    -1.0 / 0.0 < x
 }
 
 // From low to high as numbers: -0 is 0, and a NaN is in no range.
 pub fn is_within(x: f32, low: f32, high: f32) -> bool
     ensures { result ≡ within low high x }
 {
-    (low <= x) & (x <= high)
+    low <= x && x <= high
 }

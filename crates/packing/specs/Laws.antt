@@ -1,28 +1,20 @@
 -- Laws of the definitions in this folder, for proofs and for callers. Assumes nothing.
-use Rattle.std.specs.Prelude.{ℕ, zero, suc, ◌+◌, ◌*◌, ◌-◌, ◌/◌, ◌%◌, ◌^◌, ◌≤◌, ◌<◌, ◌≡◌, Bool, true, false, cond, ◌&&◌, get_or, take, drop, set, replicate, ℤ, pos, negsuc, T, eqb, Float}
-use Rattle.std.proofs.Common.{arith, sym, ◌∙◌, length-append, length-take, length-drop, take-append-drop, drop_of_length-le, take_at, take-suc, drop-cons, drop-drop}
+use Rattle.std.specs.Prelude.{ℕ, zero, suc, ◌+◌, ◌*◌, ◌-◌, ◌/◌, ◌%◌, ◌^◌, ◌≤◌, ◌<◌, ◌≡◌, Ok, Err, IfOk, Bool, true, false, cond, ◌&&◌, get_or, take, drop, eqb}
+use Rattle.std.proofs.Common.{arith, sym, ◌∙◌, w32, length-take, drop_of_length-le, take_at, drop_at, take-suc, drop-drop}
 use Rattle.std.proofs.Math.Path.{refl, ap}
-use mathlib.Core.List.{List, [], ◌∷◌, ◌++◌, map, append_assoc, append-nil}
+use mathlib.Core.List.{List, [], ◌∷◌, ◌++◌, append_assoc, append-nil}
 use Rattle.std.proofs.Math.ListN.{length}
-use Rattle.std.proofs.Math.Seq.{drop-append-add}
-use Rattle.std.proofs.lemmas.List.{set_at}
-use Rattle.std.specs.Int.Signed.{mag}
-use Rattle.std.specs.Float.{binary32}
-use Rattle.std.specs.Float.Ieee.{fits}
-use Rattle.std.specs.Float.Ieee.Bits.{to_bits-lt, of_bits-fits}
-use borrow.Author.Tests.{eqb-true, eq-eqb, ne_eqb, lt-ltb, le-ltb, le-leb}
-use Rattle.wire.specs.Bytes.{word_bytes, word_of, replaced}
-use Rattle.numbers.specs.Floats.{float_of, bits_of}
-use Rattle.numbers.specs.FloatLaws.{float_back}
+use borrow.Rule.Slice.PartMut.{put_mid}
+use Rattle.std.specs.Int.{to_be_bytes}
+use borrow.Author.Tests.{eqb-true, eq-eqb, ne_eqb, le-leb}
+use Rattle.wire.specs.Bytes.{word_bytes, word_of}
 use Rattle.linearisation.specs.declared.Point.{Point}
-use Rattle.linearisation.specs.declared.Table.{Table}
 use Rattle.linearisation.specs.Table.{zero_point}
 use Rattle.device.specs.declared.Device.{Device}
-use Rattle.packing.specs.Words.{flag, twos, of_twos, first_words, ain_words, point_words, table_words, tot_words, ao_words, di_words, dout_words, words_of, Small}
-use Rattle.packing.specs.Words.{half, point, points, table}
-use Rattle.packing.specs.Words.{ain_settings, ain_state, ain_of, tot_settings, tot_state, tot_of, ao_settings, ao_state, ao_of, device_of}
-use Rattle.packing.specs.Words.{di_settings, di_state, di_of, dout_settings, dout_state, dout_of}
-use Rattle.packing.specs.Packed.{bytes_of, packed_of, pack_bytes, words_in, same_bytes, accepted, refused_by, unpacked_of}
+use Rattle.packing.specs.declared.NotUnpacked.TheVariants.{WrongLength, NotPacked}
+use Rattle.packing.specs.Words.{Read, place_words, point_words, table_words, ain_words, tot_words, ao_words, di_words, dout_words, device_words, words_of, Small}
+use Rattle.packing.specs.Words.{point, points, device_of}
+use Rattle.packing.specs.Packed.{bytes_of, packed_of, pack_bytes, words_in, same_bytes, unpacked_of}
 
 -- ---- words and bytes
 
@@ -34,25 +26,6 @@ pub bytes-length : (a : List ℕ) → length (bytes_of a) ≡ 4 * length a
 bytes-length [] = refl
 bytes-length (w ∷ a) = let h = bytes-length a in omega arith
 
--- the word at a place is that of its four bytes
-pub word_in : (s : List ℕ) (i : ℕ) → 4 * i + 4 ≤ length s →
-    get_or (words_in s) i 0 ≡ word_of (get_or s (4 * i) 0) (get_or s (4 * i + 1) 0) (get_or s (4 * i + 2) 0) (get_or s (4 * i + 3) 0)
-word_in [] i h = absurd (omega arith)
-word_in (a ∷ []) i h = absurd (omega arith)
-word_in (a ∷ b ∷ []) i h = absurd (omega arith)
-word_in (a ∷ b ∷ c ∷ []) i h = absurd (omega arith)
-word_in (a ∷ b ∷ c ∷ d ∷ s) zero h = refl
-word_in (a ∷ b ∷ c ∷ d ∷ s) (suc i) h =
-    let e0 : 4 * suc i ≡ suc (suc (suc (suc (4 * i)))) = omega arith in
-    let e1 : 4 * suc i + 1 ≡ suc (suc (suc (suc (4 * i + 1)))) = omega arith in
-    let e2 : 4 * suc i + 2 ≡ suc (suc (suc (suc (4 * i + 2)))) = omega arith in
-    let e3 : 4 * suc i + 3 ≡ suc (suc (suc (suc (4 * i + 3)))) = omega arith in
-    rw (e3, e2, e1, e0) (word_in s i (omega arith))
-
-pub small-append : (a b : List ℕ) → Small a → Small b → Small (a ++ b)
-small-append [] b h k = k
-small-append (w ∷ a) b h k = (h.0, small-append a b h.1 k)
-
 -- words are read again from their bytes
 pub words_back : (ws : List ℕ) → Small ws → words_in (bytes_of ws) ≡ ws
 words_back [] h = refl
@@ -61,35 +34,24 @@ words_back (w ∷ ws) h =
     let e : word_of (w / 2 ^ 24) (w / 2 ^ 16 % 256) (w / 2 ^ 8 % 256) (w % 256) ≡ w = omega arith in
     rw (e, words_back ws h.1)
 
--- ---- bytes put one after the other
-
-pub replaced-twice : (s : List ℕ) (at : ℕ) (a b : List ℕ) → at + length a + length b ≤ length s →
-    replaced (replaced s at a) (at + length a) b ≡ replaced s at (a ++ b)
-replaced-twice s at a b h =
-    let front = take at s ++ a in
-    let rest = drop (at + length a) s in
-    let m : length front ≡ at + length a = simp (length-append, length-take) (omega arith) in
-    let n : at + length a + length b ≡ length front + length b = omega arith in
-    let after : drop (at + length a + length b) (front ++ rest) ≡ drop (at + length a + length b) s =
-    ap (λ (k : ℕ). drop k (front ++ rest)) n ∙ drop-append-add front rest (length b) ∙ drop-drop (length b) (at + length a) s in
-    let e : at + length (a ++ b) ≡ at + length a + length b = omega (arith, length-append a b) in
-    rw (take_at front rest (at + length a) m, after, e) (simp append_assoc)
-
-pub replaced-length : (s : List ℕ) (at : ℕ) (a : List ℕ) → at + length a ≤ length s → length (replaced s at a) ≡ length s
-replaced-length s at a h = simp (length-append, length-take, length-drop) (omega arith)
-
--- no bytes
-pub put-none : (s : List ℕ) (at : ℕ) → replaced s at [] ≡ s
-put-none s at = let e : at + 0 ≡ at = omega arith in rw (append-nil, e) (take-append-drop at s)
-
--- one word more
-pub put-more : (s : List ℕ) (at : ℕ) (ws : List ℕ) (i : ℕ) → i < length ws → at + 4 * length ws ≤ length s →
-    replaced (replaced s at (bytes_of (take i ws))) (at + 4 * i) (word_bytes (get_or ws i 0)) ≡ replaced s at (bytes_of (take (suc i) ws))
-put-more s at ws i h room =
+-- one word more: its bytes are put behind those before it
+pub put-more : (s ws : List ℕ) (i : ℕ) → i < length ws → 4 * length ws ≤ length s →
+    put_mid (4 * i) (4 * i + 4 - 4 * i) (bytes_of (take i ws) ++ drop (4 * i) s) (word_bytes (get_or ws i 0)) ≡
+    bytes_of (take (suc i) ws) ++ drop (4 * suc i) s
+put-more s ws i h room =
     let front = bytes_of (take i ws) in
     let l : length front ≡ 4 * i = bytes-length (take i ws) ∙ simp length-take (omega arith) in
-    let e : at + 4 * i ≡ at + length front = omega arith in
-    rw (take-suc ws i 0 h, bytes-append (take i ws) (get_or ws i 0 ∷ []), e) (replaced-twice s at front (word_bytes (get_or ws i 0)) (omega arith))
+    let four : 4 * i + 4 - 4 * i ≡ 4 = omega arith in
+    let next : 4 * suc i ≡ 4 * i + 4 = omega arith in
+    let rest = drop (4 * i) s in
+    let before = take_at front rest (4 * i) l in
+    let behind = drop_at front rest (4 * i) l in
+    rw (four, next, before, behind, drop-drop 4 (4 * i) s, take-suc ws i 0 h, bytes-append (take i ws) (get_or ws i 0 ∷ []))
+    (simp append_assoc)
+
+-- std's name for a word's bytes
+pub be-bytes : (n : ℕ) → n < 2 ^ 32 → to_be_bytes w32 n ≡ word_bytes n
+be-bytes n h = let e : n / 2 ^ 24 % 256 ≡ n / 2 ^ 24 = omega arith in rw e
 
 -- ---- comparing
 
@@ -117,147 +79,55 @@ same_not s t n = go (same_bytes s t) refl
     go true e = absurd (n (same_true s t e))
     go false e = refl
 
--- ---- fields
+-- ---- a table's places
 
-pub bits_small : (x : Float) → T (fits binary32 x) → bits_of x < 2 ^ 32
-bits_small x h = to_bits-lt binary32 x h
-
-pub flag_small : (b : Bool) → flag b < 2 ^ 32
-flag_small true = omega arith
-flag_small false = omega arith
-
-pub flag-back : (b : Bool) → eqb (flag b) 1 ≡ b
-flag-back true = refl
-flag-back false = refl
-
-pub byte_small : (n : ℕ) → n < 256 → n < 2 ^ 32
-byte_small n h = omega arith
-
-pub byte-back : (n : ℕ) → n < 256 → n % 256 ≡ n
-byte-back n h = omega arith
-
-pub half-small : (n : ℕ) → n < 65536 → n < 2 ^ 32
-half-small n h = omega arith
-
-pub half_back : (n : ℕ) → n < 65536 → n % 65536 ≡ n
-half_back n h = omega arith
-
-pub high_small : (z : ℤ) → mag z < 2 ^ 63 → twos z / 2 ^ 32 < 2 ^ 32
-high_small (pos n) h = omega arith
-high_small (negsuc n) h = omega arith
-
-pub low_small : (z : ℤ) → twos z % 2 ^ 32 < 2 ^ 32
-low_small z = omega arith
-
-twos_back : (z : ℤ) → mag z < 2 ^ 63 → of_twos (twos z) ≡ z
-twos_back (pos n) h = rw (lt-ltb n (2 ^ 63) h)
-twos_back (negsuc n) h = rw (le-ltb (2 ^ 64 - suc n) (2 ^ 63) (omega arith)) (ap negsuc (omega arith))
-
-pub total-back : (z : ℤ) → mag z < 2 ^ 63 → of_twos (twos z / 2 ^ 32 * 2 ^ 32 + twos z % 2 ^ 32) ≡ z
-total-back z h = let e : twos z / 2 ^ 32 * 2 ^ 32 + twos z % 2 ^ 32 ≡ twos z = omega arith in ap of_twos e ∙ twos_back z h
-
--- ---- a table's words and their table
-
-pub point-words-length : (n i : ℕ) (ps : List Point) → length (point_words n i ps) ≡ 2 * n
-unfolding point_words
-point-words-length zero i ps = refl
-point-words-length (suc n) i ps = let h = point-words-length n (suc i) ps in omega arith
+-- a place of the table is the same whatever stands behind the table
+pub place-at : (ps : List Point) (i : ℕ) (a b : Point) → i < length ps → get_or ps i a ≡ get_or ps i b
+place-at [] i a b h = absurd (omega arith)
+place-at (p ∷ ps) zero a b h = refl
+place-at (p ∷ ps) (suc i) a b h = place-at ps i a b (omega arith)
 
 -- one place more
-pub point-words-more : (n i : ℕ) (ps : List Point)
-    → point_words (suc n) i ps ≡ point_words n i ps ++ bits_of (get_or ps (i + n) zero_point).x ∷ bits_of (get_or ps (i + n) zero_point).y ∷ []
+pub point-words-more : (n i : ℕ) (ps : List Point) → point_words (suc n) i ps ≡ point_words n i ps ++ place_words (get_or ps (i + n) zero_point)
 unfolding point_words
 point-words-more zero i ps = let e : i + 0 ≡ i = omega arith in rw e
 point-words-more (suc n) i ps = let e : i + suc n ≡ suc i + n = omega arith in rw (e, point-words-more n (suc i) ps)
 
-pub points-more : (ws : List ℕ) (n at : ℕ) → points ws (suc n) at ≡ points ws n at ++ point ws (at + 2 * n) ∷ []
+pub points-more : (n : ℕ) (ws : List ℕ) →
+    points (suc n) ws ≡
+    (let before = points n ws in
+    let last = point before.rest in
+    record { value = before.value ++ last.value ∷ []; rest = last.rest })
 unfolding points
-points-more ws zero at = let e : at + 2 * 0 ≡ at = omega arith in rw e
-points-more ws (suc n) at = let e : at + 2 * suc n ≡ at + 2 + 2 * n = omega arith in rw (e, points-more ws n (at + 2))
+points-more zero ws = refl
+points-more (suc n) ws =
+    let first = point ws in
+    ap (λ (r : Read (List Point)). record { value = first.value ∷ r.value; rest = r.rest }) (points-more n first.rest)
 
-pub points-length : (ws : List ℕ) (n at : ℕ) → length (points ws n at) ≡ n
-unfolding points
-points-length ws zero at = refl
-points-length ws (suc n) at = ap suc (points-length ws n (at + 2))
+-- the first i places are read again from their words
+abbrev pub PlacesBack : List Point → ℕ → Type 0
+PlacesBack ps i = (rest : List ℕ) → points i (point_words i 0 ps ++ rest) ≡ record { value = take i ps; rest = rest }
 
--- the words so far, and zeros up to 43
-abbrev pub words_to : ℕ → Table → List ℕ
-words_to i t = t.count ∷ (point_words i 0 t.points ++ replicate (2 * (21 - i)) 0)
+pub places-back-none : (ps : List Point) → PlacesBack ps 0
+unfolding points point_words
+places-back-none ps = λ rest. refl
 
-pub words-to-more : (t : Table) (i : ℕ) → i < 21
-    → set (set (words_to i t) (2 * i + 1) (bits_of (get_or t.points i zero_point).x)) (2 * i + 2) (bits_of (get_or t.points i zero_point).y)
-    ≡ words_to (suc i) t
-words-to-more t i h =
-    let front : List ℕ = t.count ∷ point_words i 0 t.points in
-    let x = bits_of (get_or t.points i zero_point).x in
-    let y = bits_of (get_or t.points i zero_point).y in
-    let rest = replicate {A = ℕ} (2 * (21 - suc i)) 0 in
-    let r : 2 * (21 - i) ≡ suc (suc (2 * (21 - suc i))) = omega arith in
-    let l : length front ≡ 2 * i + 1 = omega (arith, point-words-length i 0 t.points) in
-    let m : length (front ++ x ∷ []) ≡ 2 * i + 2 = omega (arith, l, length-append front (x ∷ [])) in
+pub places-back-more : (ps : List Point) (i : ℕ) → i < length ps → PlacesBack ps i
+    → ((rest : List ℕ) → (point (place_words (get_or ps i zero_point) ++ rest)).value ≡ get_or ps i zero_point)
+    → PlacesBack ps (suc i)
+places-back-more ps i h before last = λ rest.
+    let p = get_or ps i zero_point in
     let z : 0 + i ≡ i = omega arith in
-    rw (r, set_at front 0 (0 ∷ rest) x (2 * i + 1) l)
-    (ap (λ (w : List ℕ). set w (2 * i + 2) y) (sym (append_assoc front (x ∷ []) (0 ∷ rest)))
-    ∙ set_at (front ++ x ∷ []) 0 rest y (2 * i + 2) m
-    ∙ rw (point-words-more i 0 t.points, z) (simp append_assoc))
-
--- the places so far, and zeros up to 21
-abbrev pub points_to : ℕ → List ℕ → ℕ → List Point
-points_to n ws at = points ws n at ++ replicate (21 - n) zero_point
-
-pub points-to-more : (ws : List ℕ) (at n : ℕ) → n < 21 → set (points_to n ws at) n (point ws (at + 2 * n)) ≡ points_to (suc n) ws at
-points-to-more ws at n h =
-    let r : 21 - n ≡ suc (21 - suc n) = omega arith in
-    rw (r, points-more ws n at)
-    (set_at (points ws n at) zero_point (replicate (21 - suc n) zero_point) (point ws (at + 2 * n)) n (points-length ws n at) ∙ sym (simp append_assoc))
-
--- numbers that fit 32 bits, and the table with them read again
-abbrev pub Fitting : List Point → Type 0
-Fitting [] = Unit
-Fitting (p ∷ ps) = T (fits binary32 p.x) × T (fits binary32 p.y) × Fitting ps
-
-fit_at : (ps : List Point) → Fitting ps → (i : ℕ) → T (fits binary32 (get_or ps i zero_point).x) × T (fits binary32 (get_or ps i zero_point).y)
-fit_at [] f i = (of_bits-fits binary32 0, of_bits-fits binary32 0)
-fit_at (p ∷ ps) f zero = (f.0, f.1)
-fit_at (p ∷ ps) f (suc i) = fit_at ps f.2 i
-
-small-points : (n i : ℕ) (ps : List Point) → Fitting ps → Small (point_words n i ps)
-unfolding point_words
-small-points zero i ps f = tt
-small-points (suc n) i ps f =
-    (bits_small (get_or ps i zero_point).x (fit_at ps f i).0, (bits_small (get_or ps i zero_point).y (fit_at ps f i).1, small-points n (suc i) ps f))
-
--- n places from place i on
-abbrev places : ℕ → ℕ → List Point → List Point
-places zero i ps = []
-places (suc n) i ps = get_or ps i zero_point ∷ places n (suc i) ps
-
-places-are : (n i : ℕ) (ps : List Point) → i + n ≡ length ps → places n i ps ≡ drop i ps
-places-are zero i ps h = sym (drop_of_length-le ps {i = i} (omega arith))
-places-are (suc n) i ps h = rw (drop-cons ps i zero_point (omega arith), places-are n (suc i) ps (omega arith))
-
-abbrev again : Point → Point
-again p = record { x = float_of (bits_of p.x); y = float_of (bits_of p.y) }
-
-again-all : (ps : List Point) → Fitting ps → map again ps ≡ ps
-again-all [] f = refl
-again-all (p ∷ ps) f = rw (float_back p.x f.0, float_back p.y f.1, again-all ps f.2)
-
-module _ (t : Table) (full : length t.points ≡ 21) (f : Fitting t.points) where
-  pub table-small : t.count < 2 ^ 32 → Small (table_words t)
-  unfolding table_words
-  table-small c = (c, small-points 21 0 t.points f)
-
-  pub table-back : table (table_words t) 0 ≡ t
-  unfolding table table_words points point_words
-  table-back =
-      ap (λ (ps : List Point). record { count = t.count; points = ps })
-      (ap (map again) (places-are 21 0 t.points (sym full)) ∙ again-all t.points f)
+    let one : point_words (suc i) 0 ps ≡ point_words i 0 ps ++ place_words p = rw z at (point-words-more i 0 ps) in
+    let words : point_words (suc i) 0 ps ++ rest ≡ point_words i 0 ps ++ (place_words p ++ rest) =
+    ap (λ (ws : List ℕ). ws ++ rest) one ∙ append_assoc (point_words i 0 ps) (place_words p) rest in
+    let front = before (place_words p ++ rest) in
+    rw (words, points-more i (point_words i 0 ps ++ (place_words p ++ rest)), front, take-suc ps i zero_point h) (rw (last rest))
 
 -- ---- a device packed
 
 pub packed-length : (d : Device) → length (packed_of d) ≡ 564
-unfolding packed_of words_of ain_words table_words point_words tot_words ao_words di_words dout_words
+unfolding packed_of words_of device_words ain_words table_words point_words tot_words ao_words di_words dout_words
 packed-length d = refl
 
 -- into a buffer of its own length
@@ -266,103 +136,47 @@ unfolding pack_bytes
 pack-exact s d h =
     rw (le-leb 564 (length s) (omega arith), drop_of_length-le s {i = 564} (omega arith)) (append-nil (packed_of d))
 
--- the seven parts put one after the other are the packed form
-pub pack-puts : (s : List ℕ) (d : Device) → 564 ≤ length s →
-    let front = replaced (replaced s 0 (bytes_of (first_words d.write_locking))) 8 (bytes_of (ain_words d.ain)) in
-    let middle = replaced (replaced front 120 (bytes_of (table_words d.ain.table))) 292 (bytes_of (tot_words d.tot)) in
-    let all = replaced (replaced middle 348 (bytes_of (ao_words d.ao))) 440 (bytes_of (di_words d.di)) in
-    replaced all 488 (bytes_of (dout_words d.dout)) ≡ pack_bytes s d
-unfolding pack_bytes packed_of words_of ain_words table_words point_words tot_words ao_words di_words dout_words
-pack-puts s d h =
-    let f = bytes_of (first_words d.write_locking) in
-    let a = bytes_of (ain_words d.ain) in
-    let l = bytes_of (table_words d.ain.table) in
-    let t = bytes_of (tot_words d.tot) in
-    let o = bytes_of (ao_words d.ao) in
-    let i = bytes_of (di_words d.di) in
-    let u = bytes_of (dout_words d.dout) in
-    ap (λ (x : List ℕ). replaced (replaced (replaced (replaced (replaced x 120 l) 292 t) 348 o) 440 i) 488 u) (replaced-twice s 0 f a (omega arith))
-    ∙ ap (λ (x : List ℕ). replaced (replaced (replaced (replaced x 292 t) 348 o) 440 i) 488 u) (replaced-twice s 0 (f ++ a) l (omega arith))
-    ∙ ap (λ (x : List ℕ). replaced (replaced (replaced x 348 o) 440 i) 488 u) (replaced-twice s 0 (f ++ a ++ l) t (omega arith))
-    ∙ ap (λ (x : List ℕ). replaced (replaced x 440 i) 488 u) (replaced-twice s 0 (f ++ a ++ l ++ t) o (omega arith))
-    ∙ ap (λ (x : List ℕ). replaced x 488 u) (replaced-twice s 0 (f ++ a ++ l ++ t ++ o) i (omega arith))
-    ∙ replaced-twice s 0 (f ++ a ++ l ++ t ++ o ++ i) u (omega arith)
-    ∙ rw (le-leb 564 (length s) h)
+pub words-length : (d : Device) → length (words_of d) ≡ 141
+unfolding words_of device_words ain_words table_words point_words tot_words ao_words di_words dout_words
+words-length d = refl
 
--- one part more
-step : {s s' t ws ws' : List ℕ} (at : ℕ) → t ≡ replaced s at (bytes_of ws) → s ≡ s' → ws ≡ ws' → t ≡ replaced s' at (bytes_of ws')
-step at e p q = rw (e, p, q)
+-- words that a 32-bit array holds
+pub small-each : (ws : List ℕ) → ((i : ℕ) → get_or ws i 0 < 2 ^ 32) → Small ws
+small-each [] h = tt
+small-each (w ∷ ws) h = (h 0, small-each ws (λ i. h (suc i)))
 
--- so buffers each of which has one part more end as the packed form
-pub pack-steps : (s : List ℕ) (d : Device) → 564 ≤ length s → {f a l t o i u s₁ s₂ s₃ s₄ s₅ s₆ s₇ : List ℕ} → f ≡ first_words d.write_locking
-    → a ≡ ain_words d.ain → l ≡ table_words d.ain.table → t ≡ tot_words d.tot → o ≡ ao_words d.ao → i ≡ di_words d.di
-    → u ≡ dout_words d.dout → s₁ ≡ replaced s 0 (bytes_of f) → s₂ ≡ replaced s₁ 8 (bytes_of a) → s₃ ≡ replaced s₂ 120 (bytes_of l)
-    → s₄ ≡ replaced s₃ 292 (bytes_of t) → s₅ ≡ replaced s₄ 348 (bytes_of o) → s₆ ≡ replaced s₅ 440 (bytes_of i) → s₇ ≡ replaced s₆ 488 (bytes_of u)
-    → s₇ ≡ pack_bytes s d
-pack-steps s d h f a l t o i u e₁ e₂ e₃ e₄ e₅ e₆ e₇ =
-    step 488 e₇ (step 440 e₆ (step 348 e₅ (step 292 e₄ (step 120 e₃ (step 8 e₂ (step 0 e₁ refl f) a) l) t) o) i) u ∙ pack-puts s d h
-
--- a block's words are small and the block is read again from them
-module _ (d : Device) (first : Small (first_words d.write_locking))
-    (ain : Small (ain_words d.ain) × (ain_settings (ain_words d.ain) 0 ≡ d.ain.settings) × (ain_state (ain_words d.ain) 14 ≡ d.ain.state)
-    × (half (ain_words d.ain) 27 ≡ d.ain.st_rev))
-    (lin : Small (table_words d.ain.table) × (table (table_words d.ain.table) 0 ≡ d.ain.table))
-    (tot : Small (tot_words d.tot) × (tot_of (tot_words d.tot) 0 ≡ d.tot))
-    (ao : Small (ao_words d.ao) × (ao_of (ao_words d.ao) 0 ≡ d.ao))
-    (di : Small (di_words d.di) × (di_of (di_words d.di) 0 ≡ d.di))
-    (dout : Small (dout_words d.dout) × (dout_of (dout_words d.dout) 0 ≡ d.dout)) where
-  small_all : Small (words_of d)
-  unfolding words_of
-  small_all =
-      let f = first_words d.write_locking in
-      let a = ain_words d.ain in
-      let l = table_words d.ain.table in
-      let t = tot_words d.tot in
-      let o = ao_words d.ao in
-      let i = di_words d.di in
-      let three = small-append (f ++ a) l (small-append f a first ain.0) lin.0 in
-      let five = small-append (f ++ a ++ l ++ t) o (small-append (f ++ a ++ l) t three tot.0) ao.0 in
-      small-append (f ++ a ++ l ++ t ++ o ++ i) (dout_words d.dout) (small-append (f ++ a ++ l ++ t ++ o) i five di.0) dout.0
-
-  device-back : device_of (words_of d) ≡ d
-  unfolding device_of words_of ain_of tot_of ao_of di_of dout_of ain_settings ain_state tot_settings tot_state ao_settings ao_state
-      di_settings di_state dout_settings
-      dout_state ain_words tot_words ao_words di_words dout_words table points table_words point_words
-  device-back = rw (ain.1, ain.2, ain.3, lin.1, tot.1, ao.1, di.1, dout.1)
-
-  -- so what was packed is unpacked again
-  pub unpack-pack : unpacked_of (packed_of d) ≡ accepted d
-  unfolding unpacked_of packed_of
-  unpack-pack =
-      let l : length (bytes_of (words_of d)) ≡ 564 = packed-length d in
-      let w : words_in (bytes_of (words_of d)) ≡ words_of d = words_back (words_of d) small_all in
-      rw (w, device-back, eq-eqb (length (bytes_of (words_of d))) 564 l, same_self (bytes_of (words_of d)))
+-- what was packed is unpacked again, where its words are read again
+pub unpack-pack : (d : Device) → Small (words_of d) → device_of (words_of d) ≡ d → unpacked_of (packed_of d) ≡ Ok d
+unfolding unpacked_of packed_of
+unpack-pack d small back =
+    let l : length (bytes_of (words_of d)) ≡ 564 = packed-length d in
+    let w : words_in (bytes_of (words_of d)) ≡ words_of d = words_back (words_of d) small in
+    rw (w, back, eq-eqb (length (bytes_of (words_of d))) 564 l, same_self (bytes_of (words_of d)))
 
 -- ---- bytes unpacked
 
 module _ (s : List ℕ) where
-  pub unpack-length : (length s ≡ 564 → ⊥) → unpacked_of s ≡ refused_by 7
+  pub unpack-length : (length s ≡ 564 → ⊥) → unpacked_of s ≡ Err WrongLength
   unfolding unpacked_of
   unpack-length n = rw (ne_eqb (length s) 564 n)
 
-  pub unpack-yes : length s ≡ 564 → s ≡ packed_of (device_of (words_in s)) → unpacked_of s ≡ accepted (device_of (words_in s))
+  pub unpack-yes : length s ≡ 564 → s ≡ packed_of (device_of (words_in s)) → unpacked_of s ≡ Ok (device_of (words_in s))
   unfolding unpacked_of
   unpack-yes l e = rw (eq-eqb (length s) 564 l, same_of s (packed_of (device_of (words_in s))) e)
 
-  pub unpack-no : length s ≡ 564 → (s ≡ packed_of (device_of (words_in s)) → ⊥) → unpacked_of s ≡ refused_by 255
+  pub unpack-no : length s ≡ 564 → (s ≡ packed_of (device_of (words_in s)) → ⊥) → unpacked_of s ≡ Err NotPacked
   unfolding unpacked_of
   unpack-no l n = rw (eq-eqb (length s) 564 l, same_not s (packed_of (device_of (words_in s))) n)
 
   -- what is accepted packs to the bytes that it came from
-  pub pack-unpack : (unpacked_of s).answer ≡ 0 → packed_of (unpacked_of s).device ≡ s
+  pub pack-unpack : IfOk (unpacked_of s) (λ d. packed_of d ≡ s)
   unfolding unpacked_of
   pack-unpack = go (eqb (length s) 564) (same_bytes s (packed_of d)) refl
     where
       d : Device
       d = device_of (words_in s)
 
-      go : (l q : Bool) → same_bytes s (packed_of d) ≡ q → (cond l (cond q (accepted d) (refused_by 255)) (refused_by 7)).answer ≡ 0 →
-          packed_of (cond l (cond q (accepted d) (refused_by 255)) (refused_by 7)).device ≡ s
-      go true true e h = sym (same_true s (packed_of d) e)
-      go true false e h = absurd (omega arith)
-      go false q e h = absurd (omega arith)
+      go : (l q : Bool) → same_bytes s (packed_of d) ≡ q → IfOk (cond l (cond q (Ok d) (Err NotPacked)) (Err WrongLength)) (λ e. packed_of e ≡ s)
+      go true true e = sym (same_true s (packed_of d) e)
+      go true false e = tt
+      go false q e = tt

@@ -1,11 +1,10 @@
 -- The packed form of a device, its 141 words as 564 bytes, and what bytes are unpacked to. Assumes nothing.
-use Rattle.std.specs.Prelude.{ℕ, Bool, true, false, cond, ◌&&◌, List, [], ◌∷◌, ◌++◌, length, drop, leb, eqb}
-use Rattle.wire.specs.declared.Answer.{Answer}
+use Rattle.std.specs.Prelude.{ℕ, Result, Ok, Err, Bool, true, false, cond, ◌&&◌, List, [], ◌∷◌, ◌++◌, length, drop, leb, eqb}
 use Rattle.wire.specs.Bytes.{word_bytes, word_of}
-use Rattle.wire.specs.Refusal.{ground}
+use Rattle.wire.specs.Refusal.{Answer, granted, ground}
 use Rattle.device.specs.declared.Device.{Device}
-use Rattle.device.specs.Factory.{factory_device}
-use Rattle.packing.specs.declared.Unpacked.{Unpacked}
+use Rattle.packing.specs.declared.NotUnpacked.{NotUnpacked}
+use Rattle.packing.specs.declared.NotUnpacked.TheVariants.{WrongLength, NotPacked}
 use Rattle.packing.specs.Words.{words_of, device_of}
 
 -- each word highest byte first
@@ -21,7 +20,7 @@ abbrev pub pack_fits : List ℕ → Bool
 pack_fits s = leb 564 (length s)
 
 unfoldable pub pack_answer : List ℕ → Answer
-pack_answer s = cond (pack_fits s) Answer.Accepted (Answer.Refused (ground 7))
+pack_answer s = cond (pack_fits s) granted (Err (ground 7))
 
 unfoldable pub pack_bytes : List ℕ → Device → List ℕ
 pack_bytes s d = cond (pack_fits s) (packed_of d ++ drop 564 s) s
@@ -41,16 +40,14 @@ same_bytes [] (b ∷ t) = false
 same_bytes (a ∷ s) [] = false
 same_bytes (a ∷ s) (b ∷ t) = eqb a b && same_bytes s t
 
-abbrev pub accepted : Device → Unpacked
-accepted d = record { device = d; answer = 0 }
+-- the numbers of what is not unpacked: 7 as of other bytes of a wrong length, 255 of no ground of the papers
+abbrev pub not_unpacked_number : NotUnpacked → ℕ
+not_unpacked_number WrongLength = 7
+not_unpacked_number NotPacked = 255
 
--- the number of the refusal, with the factory device
-abbrev pub refused_by : ℕ → Unpacked
-refused_by n = record { device = factory_device; answer = n }
-
--- the device whose packed form the bytes are; refused are another length than 564, by 7, and bytes that no device packs to, by 255
-unfoldable pub unpacked_of : List ℕ → Unpacked
+-- the device whose packed form the bytes are; refused are another length than 564, and bytes that no device packs to
+unfoldable pub unpacked_of : List ℕ → Result Device NotUnpacked
 unpacked_of s =
     cond (eqb (length s) 564)
-    (cond (same_bytes s (packed_of (device_of (words_in s)))) (accepted (device_of (words_in s))) (refused_by 255))
-    (refused_by 7)
+    (cond (same_bytes s (packed_of (device_of (words_in s)))) (Ok (device_of (words_in s))) (Err NotPacked))
+    (Err WrongLength)

@@ -4,13 +4,10 @@
 // two's complement, the higher first. The linearisation table has 43: its count, then x and y of each of its 21 places.
 #![tactic(auto)]
 
-ghost use Rattle.std.specs.Prelude.{◌≡◌, ◌+◌, ◌*◌, ◌≤◌, length};
-ghost use Rattle.wire.specs.Bytes.{word_bytes, replaced};
-ghost use Rattle.packing.specs.Words.{twos, of_twos, ain_words, table_words, tot_words, ao_words, di_words, dout_words, first_words, Small, device_of};
-ghost use Rattle.packing.specs.Words.{ain_settings, ain_state, ain_of, tot_settings, tot_state, tot_of, ao_settings, ao_state, ao_of};
-ghost use Rattle.packing.specs.Words.{di_settings, di_state, di_of, dout_settings, dout_state, dout_of};
+ghost use Rattle.std.specs.Prelude.{◌≡◌, ◌+◌, ◌*◌, ◌≤◌, ◌<◌, ℕ, List, [], ◌∷◌, ◌++◌, length, drop, IfOk};
+ghost use Rattle.packing.specs.Words.{Read, written};
 ghost use Rattle.packing.specs.Words as Words;
-ghost use Rattle.packing.specs.Packed.{bytes_of, packed_of, pack_answer, pack_bytes, words_in, accepted, refused_by, unpacked_of};
+ghost use Rattle.packing.specs.Packed.{bytes_of, packed_of, pack_answer, pack_bytes, words_in, not_unpacked_number, unpacked_of};
 
 use ain::Alarms;
 use ao::Input;
@@ -19,783 +16,905 @@ use device::{AinBlock, AoBlock, Device, DiBlock, DoutBlock, TotBlock};
 use linearisation::{Point, Table};
 use numbers::floats::{bits_of, float_of};
 use scaling::Scale;
-use wire::{Answer, Discrete, Pair, Refusal};
+use wire::{Discrete, Pair, Refusal};
 
 // The bytes of a packed device.
 pub const PACKED: usize = 564;
 
-// What bytes are unpacked to. The answer is 0 where they are a device, else the refusal's number: 7 for another length
-// than PACKED, 255 for bytes that no device packs to. Of a refusal the device is the factory's.
-#[repr(C)]
-#[derive(Clone, Copy)]
-pub struct Unpacked {
-    pub device: Device,
-    pub answer: u8,
+const WORDS: usize = 141;
+
+const LAYOUT_VERSION: u32 = 3;
+
+// Why bytes are no device.
+#[derive(Clone, Copy, Debug, PartialEq, Eq)]
+pub enum NotUnpacked {
+    // Another length than PACKED.
+    WrongLength = 7,
+    // Bytes that no device packs to.
+    NotPacked = 255,
 }
 
-// ---- words of a device
-
-fn flag(b: bool) -> u32
-    ensures { result ≡ Words.flag b }
-{
-    if b {
-        return 1;
-    }
-    0
-}
-
-// A total in two's complement.
-fn total_bits(z: i64) -> u64
-    ensures { result ≡ twos z }
-{
-    if z < 0 {
-        return 0xffff_ffff_ffff_ffff - !z as u64;
-    }
-    z as u64
-}
-
-// The layout's version and WRITE_LOCKING.
-fn first_words(lock: u32) -> [u32; 2]
-    ensures value { result ≡ first_words lock }
-    ensures small { Small (first_words lock) }
-{
-    [3, lock]
-}
-
-// AIN but for its table.
-fn ain_words(b: AinBlock) -> [u32; 28]
-    ensures value { result ≡ ain_words b }
-    ensures small { Small (ain_words b) × (ain_settings (ain_words b) 0 ≡ b.settings) × (ain_state (ain_words b) 14 ≡ b.state) × (Words.half (ain_words b) 27 ≡ b.st_rev) }
-{
-    [
-        b.settings.target,
-        bits_of(b.settings.pv_scale.low),
-        bits_of(b.settings.pv_scale.high),
-        bits_of(b.settings.out_scale.low),
-        bits_of(b.settings.out_scale.high),
-        b.settings.lin_type,
-        bits_of(b.settings.pv_ftime),
-        b.settings.fsafe_type,
-        bits_of(b.settings.fsafe_value),
-        bits_of(b.settings.alarm_hys),
-        bits_of(b.settings.hi_hi_lim),
-        bits_of(b.settings.hi_lim),
-        bits_of(b.settings.lo_lim),
-        bits_of(b.settings.lo_lo_lim),
-        b.state.out.bits,
-        b.state.out.status as u32,
-        b.state.mode,
-        flag(b.state.filter.some),
-        bits_of(b.state.filter.value),
-        flag(b.state.last.some),
-        bits_of(b.state.last.value),
-        b.state.operator.bits,
-        b.state.operator.status as u32,
-        flag(b.state.alarms.hi_hi),
-        flag(b.state.alarms.hi),
-        flag(b.state.alarms.lo),
-        flag(b.state.alarms.lo_lo),
-        b.st_rev as u32,
-    ]
-}
-
-// A table's count and the numbers of its places.
-fn table_words(t: Table) -> [u32; 43]
-    ensures value { result ≡ table_words t }
-    ensures small { Small (table_words t) × (Words.table (table_words t) 0 ≡ t) }
-{
-    let mut words = [0; 43];
-    words[0] = t.count;
-    let mut i = 0;
-    while i < 21 {
-        let p = t.points[i];
-        let x = bits_of(p.x);
-        let y = bits_of(p.y);
-        words[2 * i + 1] = x;
-        words[2 * i + 2] = y;
-        i += 1;
-    }
-    words
-}
-
-fn tot_words(b: TotBlock) -> [u32; 14]
-    ensures value { result ≡ tot_words b }
-    ensures small { Small (tot_words b) × (tot_of (tot_words b) 0 ≡ b) }
-{
-    let total = total_bits(b.state.total);
-    [
-        b.settings.target,
-        b.settings.set_tot,
-        b.settings.mode_tot,
-        b.settings.fail_tot,
-        bits_of(b.settings.preset_tot),
-        (total / 0x1_0000_0000) as u32,
-        (total % 0x1_0000_0000) as u32,
-        b.state.out.bits,
-        b.state.out.status as u32,
-        b.state.mode,
-        flag(b.state.rate.some),
-        bits_of(b.state.rate.value),
-        b.state.operator_status as u32,
-        b.st_rev as u32,
-    ]
-}
-
-fn ao_words(b: AoBlock) -> [u32; 23]
-    ensures value { result ≡ ao_words b }
-    ensures small { Small (ao_words b) × (ao_of (ao_words b) 0 ≡ b) }
-{
-    [
-        b.settings.target,
-        bits_of(b.settings.pv_scale.low),
-        bits_of(b.settings.pv_scale.high),
-        bits_of(b.settings.out_scale.low),
-        bits_of(b.settings.out_scale.high),
-        b.settings.fsafe_time,
-        b.settings.fsafe_type,
-        bits_of(b.settings.fsafe_value),
-        b.settings.increase_close,
-        b.state.out.bits,
-        b.state.out.status as u32,
-        b.state.mode,
-        b.state.operator.bits,
-        b.state.operator.status as u32,
-        flag(b.state.sp.some),
-        bits_of(b.state.sp.value),
-        b.state.sp.silence,
-        flag(b.state.sp.ifs),
-        flag(b.state.rcas_in.some),
-        bits_of(b.state.rcas_in.value),
-        b.state.rcas_in.silence,
-        flag(b.state.rcas_in.ifs),
-        b.st_rev as u32,
-    ]
-}
-
-fn di_words(b: DiBlock) -> [u32; 12]
-    ensures value { result ≡ di_words b }
-    ensures small { Small (di_words b) × (di_of (di_words b) 0 ≡ b) }
-{
-    [
-        b.settings.target,
-        b.settings.invert,
-        b.settings.fsafe_type,
-        b.settings.fsafe_val_d,
-        b.state.out.value as u32,
-        b.state.out.status as u32,
-        b.state.mode,
-        flag(b.state.last.some),
-        b.state.last.value as u32,
-        b.state.operator.value as u32,
-        b.state.operator.status as u32,
-        b.st_rev as u32,
-    ]
-}
-
-fn dout_words(b: DoutBlock) -> [u32; 19]
-    ensures value { result ≡ dout_words b }
-    ensures small { Small (dout_words b) × (dout_of (dout_words b) 0 ≡ b) }
-{
-    [
-        b.settings.target,
-        b.settings.invert,
-        b.settings.fsafe_type,
-        b.settings.fsafe_val_d,
-        b.settings.fsafe_time,
-        b.state.out.value as u32,
-        b.state.out.status as u32,
-        b.state.mode,
-        b.state.operator.value as u32,
-        b.state.operator.status as u32,
-        flag(b.state.sp.some),
-        b.state.sp.value as u32,
-        b.state.sp.silence,
-        flag(b.state.sp.ifs),
-        flag(b.state.rcas_in.some),
-        b.state.rcas_in.value as u32,
-        b.state.rcas_in.silence,
-        flag(b.state.rcas_in.ifs),
-        b.st_rev as u32,
-    ]
-}
-
-// ---- words into a buffer
-
-fn put_word(buf: &mut [u8], at: usize, word: u32)
-    requires { at + 4 ≤ length buf.old }
-    ensures { buf.new ≡ replaced buf.old at (word_bytes word) }
-{
-    let a = (word / 0x100_0000) as u8;
-    let b = (word / 0x1_0000 % 256) as u8;
-    let c = (word / 0x100 % 256) as u8;
-    let d = (word % 256) as u8;
-    buf[at] = a;
-    buf[at + 1] = b;
-    buf[at + 2] = c;
-    buf[at + 3] = d;
-}
-
-// Puts words one after the other from at on.
-fn put_words(buf: &mut [u8], at: usize, words: &[u32])
-    requires { at + 4 * length words.now ≤ length buf.old }
-    ensures { buf.new ≡ replaced buf.old at (bytes_of words.now) }
-{
-    let mut i = 0;
-    while i < words.len() {
-        let word = words[i];
-        put_word(buf, at + 4 * i, word);
-        i += 1;
+impl NotUnpacked {
+    // The number that such a call is answered.
+    pub fn number(self) -> u8
+        ensures { result ≡ not_unpacked_number self }
+    {
+        self as u8
     }
 }
 
-// ---- words of bytes
+// ---- words one after the other
 
-// The word at i, counted in words.
-fn word_at(s: &[u8], i: usize) -> u32
-    requires { 4 * i + 4 ≤ length s.now }
-    ensures { result ≡ Words.word (words_in s.now) i }
-{
-    let at = 4 * i;
-    wire::word(s[at], s[at + 1], s[at + 2], s[at + 3])
+// The words of a device, as far as they are written: an array and a count, since the head has no heap.
+#[derive(Drop)]
+struct Writer {
+    words: [u32; WORDS],
+    count: usize,
 }
 
-fn float_at(s: &[u8], i: usize) -> f32
-    requires { 4 * i + 4 ≤ length s.now }
-    ensures { result ≡ Words.float (words_in s.now) i }
-{
-    float_of(word_at(s, i))
-}
+impl Writer {
+    fn new() -> Writer
+        ensures { result.count ≡ 0 }
+    {
+        Writer {
+            words: [0; WORDS],
+            count: 0,
+        }
+    }
 
-fn byte_at(s: &[u8], i: usize) -> u8
-    requires { 4 * i + 4 ≤ length s.now }
-    ensures { result ≡ Words.byte (words_in s.now) i }
-{
-    (word_at(s, i) % 256) as u8
-}
+    fn push(&mut self, word: u32)
+        requires { self.old.count < 141 }
+        ensures count { self.new.count ≡ self.old.count + 1 }
+        ensures self_after { written self.new ≡ written self.old ++ (word ∷ []) }
+    {
+        self.words[self.count] = word;
+        self.count += 1;
+    }
 
-fn half_at(s: &[u8], i: usize) -> u16
-    requires { 4 * i + 4 ≤ length s.now }
-    ensures { result ≡ Words.half (words_in s.now) i }
-{
-    (word_at(s, i) % 0x1_0000) as u16
-}
-
-fn flag_at(s: &[u8], i: usize) -> bool
-    requires { 4 * i + 4 ≤ length s.now }
-    ensures { result ≡ Words.is_set (words_in s.now) i }
-{
-    word_at(s, i) == 1
-}
-
-fn scale_at(s: &[u8], i: usize) -> Scale
-    requires { 4 * i + 8 ≤ length s.now }
-    ensures { result ≡ Words.scale (words_in s.now) i }
-{
-    let low = float_at(s, i);
-    let high = float_at(s, i + 1);
-    Scale {
-        low: low,
-        high: high,
+    fn words(&self) -> &[u32]
+        requires { self.now.count ≤ 141 }
+        ensures { result.now ≡ written self.now }
+    {
+        &self.words[..self.count]
     }
 }
 
-fn pair_at(s: &[u8], i: usize) -> Pair
-    requires { 4 * i + 8 ≤ length s.now }
-    ensures { result ≡ Words.pair (words_in s.now) i }
-{
-    let bits = word_at(s, i);
-    let status = byte_at(s, i + 1);
-    Pair {
-        bits: bits,
-        status: status,
+// Bytes that are read word by word.
+#[derive(Drop)]
+struct Reader<'a> {
+    left: &'a [u8],
+}
+
+impl Reader<'_> {
+    // The next word, and 0 after the last.
+    fn next_word(&mut self) -> u32
+        ensures value { result ≡ (Words.word (words_in self.old.left.now)).value }
+        ensures self_after { words_in self.new.left.now ≡ (Words.word (words_in self.old.left.now)).rest }
+    {
+        let [a, b, c, d, left @ ..] = self.left else {
+            self.left = &[];
+            return 0;
+        };
+        self.left = left;
+        u32::from_be_bytes([*a, *b, *c, *d])
     }
 }
 
-fn discrete_at(s: &[u8], i: usize) -> Discrete
-    requires { 4 * i + 8 ≤ length s.now }
-    ensures { result ≡ Words.discrete (words_in s.now) i }
-{
-    let value = byte_at(s, i);
-    let status = byte_at(s, i + 1);
-    Discrete {
-        value: value,
-        status: status,
+// A value with a place in the packed form. What is put is read again: that is no law of the trait but a promise of put,
+// as it holds of the values that fit their types, and the laws would speak of all numbers.
+trait Layout: Copy {
+    ghost words: { Self → List ℕ };
+
+    // What the first words are read as.
+    ghost read: { List ℕ → Read Self };
+
+    // How many words there are.
+    ghost width: { ℕ };
+
+    fn put(self, to: &mut Writer)
+        requires { to.old.count + width ≤ 141 }
+        ensures count { to.new.count ≡ to.old.count + width }
+        ensures to_after { written to.new ≡ written to.old ++ words self }
+        ensures back { (rest : List ℕ) → (read (words self ++ rest)).value ≡ self }
+        ensures behind { (rest : List ℕ) → (read (words self ++ rest)).rest ≡ rest };
+
+    fn take(from: &mut Reader) -> Self
+        ensures value { result ≡ (read (words_in from.old.left.now)).value }
+        ensures from_after { words_in from.new.left.now ≡ (read (words_in from.old.left.now)).rest };
+}
+
+// ---- numbers, flags and floats
+
+impl Layout for u32 {
+    ghost words = { Words.number_words };
+
+    ghost read = { Words.word };
+
+    ghost width = { 1 };
+
+    fn put(self, to: &mut Writer) {
+        to.push(self);
+    }
+
+    fn take(from: &mut Reader) -> u32 {
+        from.next_word()
     }
 }
 
-fn kept_at(s: &[u8], i: usize) -> Kept
-    requires { 4 * i + 8 ≤ length s.now }
-    ensures { result ≡ Words.kept (words_in s.now) i }
-{
-    let some = flag_at(s, i);
-    let value = float_at(s, i + 1);
-    Kept {
-        some: some,
-        value: value,
+impl Layout for u16 {
+    ghost words = { Words.number_words };
+
+    ghost read = { Words.half };
+
+    ghost width = { 1 };
+
+    fn put(self, to: &mut Writer) {
+        to.push(u32::from(self));
+    }
+
+    fn take(from: &mut Reader) -> u16 {
+        (from.next_word() & 0xffff) as u16
     }
 }
 
-fn kept_d_at(s: &[u8], i: usize) -> di::Kept
-    requires { 4 * i + 8 ≤ length s.now }
-    ensures { result ≡ Words.kept_d (words_in s.now) i }
-{
-    let some = flag_at(s, i);
-    let value = byte_at(s, i + 1);
-    di::Kept {
-        some: some,
-        value: value,
+impl Layout for u8 {
+    ghost words = { Words.number_words };
+
+    ghost read = { Words.byte };
+
+    ghost width = { 1 };
+
+    fn put(self, to: &mut Writer) {
+        to.push(u32::from(self));
+    }
+
+    fn take(from: &mut Reader) -> u8 {
+        (from.next_word() & 0xff) as u8
     }
 }
 
-fn alarms_at(s: &[u8], i: usize) -> Alarms
-    requires { 4 * i + 16 ≤ length s.now }
-    ensures { result ≡ Words.alarms (words_in s.now) i }
-{
-    let hi_hi = flag_at(s, i);
-    let hi = flag_at(s, i + 1);
-    let lo = flag_at(s, i + 2);
-    let lo_lo = flag_at(s, i + 3);
-    Alarms {
-        hi_hi: hi_hi,
-        hi: hi,
-        lo: lo,
-        lo_lo: lo_lo,
+impl Layout for bool {
+    ghost words = { Words.flag_words };
+
+    ghost read = { Words.is_set };
+
+    ghost width = { 1 };
+
+    fn put(self, to: &mut Writer) {
+        to.push(u32::from(self));
+    }
+
+    fn take(from: &mut Reader) -> bool {
+        from.next_word() == 1
     }
 }
 
-fn input_at(s: &[u8], i: usize) -> Input
-    requires { 4 * i + 16 ≤ length s.now }
-    ensures { result ≡ Words.input (words_in s.now) i }
-{
-    let some = flag_at(s, i);
-    let value = float_at(s, i + 1);
-    let silence = word_at(s, i + 2);
-    let ifs = flag_at(s, i + 3);
-    Input {
-        some: some,
-        value: value,
-        silence: silence,
-        ifs: ifs,
+impl Layout for f32 {
+    ghost words = { Words.float_words };
+
+    ghost read = { Words.float };
+
+    ghost width = { 1 };
+
+    fn put(self, to: &mut Writer) {
+        to.push(bits_of(self));
+    }
+
+    fn take(from: &mut Reader) -> f32 {
+        float_of(from.next_word())
     }
 }
 
-fn input_d_at(s: &[u8], i: usize) -> dout::Input
-    requires { 4 * i + 16 ≤ length s.now }
-    ensures { result ≡ Words.input_d (words_in s.now) i }
-{
-    let some = flag_at(s, i);
-    let value = byte_at(s, i + 1);
-    let silence = word_at(s, i + 2);
-    let ifs = flag_at(s, i + 3);
-    dout::Input {
-        some: some,
-        value: value,
-        silence: silence,
-        ifs: ifs,
+impl Layout for i64 {
+    ghost words = { Words.total_words };
+
+    ghost read = { Words.total };
+
+    ghost width = { 2 };
+
+    fn put(self, to: &mut Writer) {
+        let bits = self.cast_unsigned();
+        to.push((bits / 0x1_0000_0000) as u32);
+        to.push((bits % 0x1_0000_0000) as u32);
+    }
+
+    fn take(from: &mut Reader) -> i64 {
+        let high = from.next_word();
+        let low = from.next_word();
+        (u64::from(high) * 0x1_0000_0000 + u64::from(low)).cast_signed()
     }
 }
 
-fn point_at(s: &[u8], i: usize) -> Point
-    requires { 4 * i + 8 ≤ length s.now }
-    ensures { result ≡ Words.point (words_in s.now) i }
-{
-    let x = float_at(s, i);
-    let y = float_at(s, i + 1);
-    Point { x: x, y: y }
-}
+// ---- the parts of the blocks
 
-fn points_at(s: &[u8], i: usize) -> [Point; 21]
-    requires { 4 * i + 168 ≤ length s.now }
-    ensures { result ≡ Words.points (words_in s.now) 21 i }
-{
-    let empty = linearisation::none();
-    let mut points = empty.points;
-    let mut n = 0;
-    while n < 21 {
-        let p = point_at(s, i + 2 * n);
-        points[n] = p;
-        n += 1;
+impl Layout for Scale {
+    ghost words = { Words.scale_words };
+
+    ghost read = { Words.scale };
+
+    ghost width = { 2 };
+
+    fn put(self, to: &mut Writer) {
+        self.low.put(to);
+        self.high.put(to);
     }
-    points
-}
 
-fn table_at(s: &[u8], i: usize) -> Table
-    requires { 4 * i + 172 ≤ length s.now }
-    ensures { result ≡ Words.table (words_in s.now) i }
-{
-    let count = word_at(s, i);
-    let points = points_at(s, i + 1);
-    Table {
-        count: count,
-        points: points,
+    fn take(from: &mut Reader) -> Scale {
+        Scale {
+            low: Layout::take(from),
+            high: Layout::take(from),
+        }
     }
 }
 
-fn total_of(n: u64) -> i64
-    ensures { result ≡ of_twos n }
-{
-    let plain = n < 0x8000_0000_0000_0000;
-    if plain {
-        return n as i64;
+impl Layout for Pair {
+    ghost words = { Words.pair_words };
+
+    ghost read = { Words.pair };
+
+    ghost width = { 2 };
+
+    fn put(self, to: &mut Writer) {
+        self.bits.put(to);
+        self.status.put(to);
     }
-    !((0xffff_ffff_ffff_ffff - n) as i64)
-}
 
-fn total_at(s: &[u8], i: usize) -> i64
-    requires { 4 * i + 8 ≤ length s.now }
-    ensures { result ≡ Words.total (words_in s.now) i }
-{
-    let high = word_at(s, i);
-    let low = word_at(s, i + 1);
-    total_of(high as u64 * 0x1_0000_0000 + low as u64)
-}
-
-// ---- a device of bytes
-
-fn ain_settings_at(s: &[u8], i: usize) -> ain::Settings
-    requires { 4 * i + 56 ≤ length s.now }
-    ensures { result ≡ ain_settings (words_in s.now) i }
-{
-    let target = word_at(s, i);
-    let pv_scale = scale_at(s, i + 1);
-    let out_scale = scale_at(s, i + 3);
-    let lin_type = word_at(s, i + 5);
-    let pv_ftime = float_at(s, i + 6);
-    let fsafe_type = word_at(s, i + 7);
-    let fsafe_value = float_at(s, i + 8);
-    let alarm_hys = float_at(s, i + 9);
-    let hi_hi_lim = float_at(s, i + 10);
-    let hi_lim = float_at(s, i + 11);
-    let lo_lim = float_at(s, i + 12);
-    let lo_lo_lim = float_at(s, i + 13);
-    ain::Settings {
-        target: target,
-        pv_scale: pv_scale,
-        out_scale: out_scale,
-        lin_type: lin_type,
-        pv_ftime: pv_ftime,
-        fsafe_type: fsafe_type,
-        fsafe_value: fsafe_value,
-        alarm_hys: alarm_hys,
-        hi_hi_lim: hi_hi_lim,
-        hi_lim: hi_lim,
-        lo_lim: lo_lim,
-        lo_lo_lim: lo_lo_lim,
+    fn take(from: &mut Reader) -> Pair {
+        Pair {
+            bits: Layout::take(from),
+            status: Layout::take(from),
+        }
     }
 }
 
-fn ain_state_at(s: &[u8], i: usize) -> ain::State
-    requires { 4 * i + 52 ≤ length s.now }
-    ensures { result ≡ ain_state (words_in s.now) i }
-{
-    let out = pair_at(s, i);
-    let mode = word_at(s, i + 2);
-    let filter = kept_at(s, i + 3);
-    let last = kept_at(s, i + 5);
-    let operator = pair_at(s, i + 7);
-    let alarms = alarms_at(s, i + 9);
-    ain::State {
-        out: out,
-        mode: mode,
-        filter: filter,
-        last: last,
-        operator: operator,
-        alarms: alarms,
+impl Layout for Discrete {
+    ghost words = { Words.discrete_words };
+
+    ghost read = { Words.discrete };
+
+    ghost width = { 2 };
+
+    fn put(self, to: &mut Writer) {
+        self.value.put(to);
+        self.status.put(to);
+    }
+
+    fn take(from: &mut Reader) -> Discrete {
+        Discrete {
+            value: Layout::take(from),
+            status: Layout::take(from),
+        }
     }
 }
 
-fn ain_at(s: &[u8], i: usize) -> AinBlock
-    requires { 4 * i + 284 ≤ length s.now }
-    ensures { result ≡ ain_of (words_in s.now) i }
-{
-    let settings = ain_settings_at(s, i);
-    let state = ain_state_at(s, i + 14);
-    let st_rev = half_at(s, i + 27);
-    let table = table_at(s, i + 28);
-    AinBlock {
-        settings: settings,
-        state: state,
-        st_rev: st_rev,
-        table: table,
+impl Layout for Kept {
+    ghost words = { Words.kept_words };
+
+    ghost read = { Words.kept };
+
+    ghost width = { 2 };
+
+    fn put(self, to: &mut Writer) {
+        self.some.put(to);
+        self.value.put(to);
+    }
+
+    fn take(from: &mut Reader) -> Kept {
+        Kept {
+            some: Layout::take(from),
+            value: Layout::take(from),
+        }
     }
 }
 
-fn tot_settings_at(s: &[u8], i: usize) -> tot::Settings
-    requires { 4 * i + 20 ≤ length s.now }
-    ensures { result ≡ tot_settings (words_in s.now) i }
-{
-    let target = word_at(s, i);
-    let set_tot = word_at(s, i + 1);
-    let mode_tot = word_at(s, i + 2);
-    let fail_tot = word_at(s, i + 3);
-    let preset_tot = float_at(s, i + 4);
-    tot::Settings {
-        target: target,
-        set_tot: set_tot,
-        mode_tot: mode_tot,
-        fail_tot: fail_tot,
-        preset_tot: preset_tot,
+impl Layout for di::Kept {
+    ghost words = { Words.kept_d_words };
+
+    ghost read = { Words.kept_d };
+
+    ghost width = { 2 };
+
+    fn put(self, to: &mut Writer) {
+        self.some.put(to);
+        self.value.put(to);
+    }
+
+    fn take(from: &mut Reader) -> di::Kept {
+        di::Kept {
+            some: Layout::take(from),
+            value: Layout::take(from),
+        }
     }
 }
 
-fn tot_state_at(s: &[u8], i: usize) -> tot::State
-    requires { 4 * i + 32 ≤ length s.now }
-    ensures { result ≡ tot_state (words_in s.now) i }
-{
-    let total = total_at(s, i);
-    let out = pair_at(s, i + 2);
-    let mode = word_at(s, i + 4);
-    let rate = kept_at(s, i + 5);
-    let operator_status = byte_at(s, i + 7);
-    tot::State {
-        total: total,
-        out: out,
-        mode: mode,
-        rate: rate,
-        operator_status: operator_status,
+impl Layout for Alarms {
+    ghost words = { Words.alarms_words };
+
+    ghost read = { Words.alarms };
+
+    ghost width = { 4 };
+
+    fn put(self, to: &mut Writer) {
+        self.hi_hi.put(to);
+        self.hi.put(to);
+        self.lo.put(to);
+        self.lo_lo.put(to);
+    }
+
+    fn take(from: &mut Reader) -> Alarms {
+        Alarms {
+            hi_hi: Layout::take(from),
+            hi: Layout::take(from),
+            lo: Layout::take(from),
+            lo_lo: Layout::take(from),
+        }
     }
 }
 
-fn tot_at(s: &[u8], i: usize) -> TotBlock
-    requires { 4 * i + 56 ≤ length s.now }
-    ensures { result ≡ tot_of (words_in s.now) i }
-{
-    let settings = tot_settings_at(s, i);
-    let state = tot_state_at(s, i + 5);
-    let st_rev = half_at(s, i + 13);
-    TotBlock {
-        settings: settings,
-        state: state,
-        st_rev: st_rev,
+impl Layout for Input {
+    ghost words = { Words.input_words };
+
+    ghost read = { Words.input };
+
+    ghost width = { 4 };
+
+    fn put(self, to: &mut Writer) {
+        self.some.put(to);
+        self.value.put(to);
+        self.silence.put(to);
+        self.ifs.put(to);
+    }
+
+    fn take(from: &mut Reader) -> Input {
+        Input {
+            some: Layout::take(from),
+            value: Layout::take(from),
+            silence: Layout::take(from),
+            ifs: Layout::take(from),
+        }
     }
 }
 
-fn ao_settings_at(s: &[u8], i: usize) -> ao::Settings
-    requires { 4 * i + 36 ≤ length s.now }
-    ensures { result ≡ ao_settings (words_in s.now) i }
-{
-    let target = word_at(s, i);
-    let pv_scale = scale_at(s, i + 1);
-    let out_scale = scale_at(s, i + 3);
-    let fsafe_time = word_at(s, i + 5);
-    let fsafe_type = word_at(s, i + 6);
-    let fsafe_value = float_at(s, i + 7);
-    let increase_close = word_at(s, i + 8);
-    ao::Settings {
-        target: target,
-        pv_scale: pv_scale,
-        out_scale: out_scale,
-        fsafe_time: fsafe_time,
-        fsafe_type: fsafe_type,
-        fsafe_value: fsafe_value,
-        increase_close: increase_close,
+impl Layout for dout::Input {
+    ghost words = { Words.input_d_words };
+
+    ghost read = { Words.input_d };
+
+    ghost width = { 4 };
+
+    fn put(self, to: &mut Writer) {
+        self.some.put(to);
+        self.value.put(to);
+        self.silence.put(to);
+        self.ifs.put(to);
+    }
+
+    fn take(from: &mut Reader) -> dout::Input {
+        dout::Input {
+            some: Layout::take(from),
+            value: Layout::take(from),
+            silence: Layout::take(from),
+            ifs: Layout::take(from),
+        }
     }
 }
 
-fn ao_state_at(s: &[u8], i: usize) -> ao::State
-    requires { 4 * i + 52 ≤ length s.now }
-    ensures { result ≡ ao_state (words_in s.now) i }
-{
-    let out = pair_at(s, i);
-    let mode = word_at(s, i + 2);
-    let operator = pair_at(s, i + 3);
-    let sp = input_at(s, i + 5);
-    let rcas_in = input_at(s, i + 9);
-    ao::State {
-        out: out,
-        mode: mode,
-        operator: operator,
-        sp: sp,
-        rcas_in: rcas_in,
+impl Layout for Point {
+    ghost words = { Words.place_words };
+
+    ghost read = { Words.point };
+
+    ghost width = { 2 };
+
+    fn put(self, to: &mut Writer) {
+        self.x.put(to);
+        self.y.put(to);
+    }
+
+    fn take(from: &mut Reader) -> Point {
+        Point {
+            x: Layout::take(from),
+            y: Layout::take(from),
+        }
     }
 }
 
-fn ao_at(s: &[u8], i: usize) -> AoBlock
-    requires { 4 * i + 92 ≤ length s.now }
-    ensures { result ≡ ao_of (words_in s.now) i }
-{
-    let settings = ao_settings_at(s, i);
-    let state = ao_state_at(s, i + 9);
-    let st_rev = half_at(s, i + 22);
-    AoBlock {
-        settings: settings,
-        state: state,
-        st_rev: st_rev,
+// Q1.3: the count, and the 21 places.
+#[tactic(auto, unfolding(crate::specs::Words::table_words, crate::specs::Words::table))]
+impl Layout for Table {
+    ghost words = { Words.table_words };
+
+    ghost read = { Words.table };
+
+    ghost width = { 43 };
+
+    fn put(self, to: &mut Writer) {
+        self.count.put(to);
+        for point in self.points {
+            point.put(to);
+        }
+    }
+
+    fn take(from: &mut Reader) -> Table {
+        let count = Layout::take(from);
+        let mut points = [Point { x: 0.0, y: 0.0 }; 21];
+        for point in points.iter_mut() {
+            *point = Layout::take(from);
+        }
+        Table { count, points }
     }
 }
 
-fn di_settings_at(s: &[u8], i: usize) -> di::Settings
-    requires { 4 * i + 16 ≤ length s.now }
-    ensures { result ≡ di_settings (words_in s.now) i }
-{
-    let target = word_at(s, i);
-    let invert = word_at(s, i + 1);
-    let fsafe_type = word_at(s, i + 2);
-    let fsafe_val_d = word_at(s, i + 3);
-    di::Settings {
-        target: target,
-        invert: invert,
-        fsafe_type: fsafe_type,
-        fsafe_val_d: fsafe_val_d,
+// ---- the blocks
+
+impl Layout for ain::Settings {
+    ghost words = { Words.ain_settings_words };
+
+    ghost read = { Words.ain_settings };
+
+    ghost width = { 14 };
+
+    fn put(self, to: &mut Writer) {
+        self.target.put(to);
+        self.pv_scale.put(to);
+        self.out_scale.put(to);
+        self.lin_type.put(to);
+        self.pv_ftime.put(to);
+        self.fsafe_type.put(to);
+        self.fsafe_value.put(to);
+        self.alarm_hys.put(to);
+        self.hi_hi_lim.put(to);
+        self.hi_lim.put(to);
+        self.lo_lim.put(to);
+        self.lo_lo_lim.put(to);
+    }
+
+    fn take(from: &mut Reader) -> ain::Settings {
+        ain::Settings {
+            target: Layout::take(from),
+            pv_scale: Layout::take(from),
+            out_scale: Layout::take(from),
+            lin_type: Layout::take(from),
+            pv_ftime: Layout::take(from),
+            fsafe_type: Layout::take(from),
+            fsafe_value: Layout::take(from),
+            alarm_hys: Layout::take(from),
+            hi_hi_lim: Layout::take(from),
+            hi_lim: Layout::take(from),
+            lo_lim: Layout::take(from),
+            lo_lo_lim: Layout::take(from),
+        }
     }
 }
 
-fn di_state_at(s: &[u8], i: usize) -> di::State
-    requires { 4 * i + 28 ≤ length s.now }
-    ensures { result ≡ di_state (words_in s.now) i }
-{
-    let out = discrete_at(s, i);
-    let mode = word_at(s, i + 2);
-    let last = kept_d_at(s, i + 3);
-    let operator = discrete_at(s, i + 5);
-    di::State {
-        out: out,
-        mode: mode,
-        last: last,
-        operator: operator,
+impl Layout for ain::State {
+    ghost words = { Words.ain_state_words };
+
+    ghost read = { Words.ain_state };
+
+    ghost width = { 13 };
+
+    fn put(self, to: &mut Writer) {
+        self.out.put(to);
+        self.mode.put(to);
+        self.filter.put(to);
+        self.last.put(to);
+        self.operator.put(to);
+        self.alarms.put(to);
+    }
+
+    fn take(from: &mut Reader) -> ain::State {
+        ain::State {
+            out: Layout::take(from),
+            mode: Layout::take(from),
+            filter: Layout::take(from),
+            last: Layout::take(from),
+            operator: Layout::take(from),
+            alarms: Layout::take(from),
+        }
     }
 }
 
-fn di_at(s: &[u8], i: usize) -> DiBlock
-    requires { 4 * i + 48 ≤ length s.now }
-    ensures { result ≡ di_of (words_in s.now) i }
-{
-    let settings = di_settings_at(s, i);
-    let state = di_state_at(s, i + 4);
-    let st_rev = half_at(s, i + 11);
-    DiBlock {
-        settings: settings,
-        state: state,
-        st_rev: st_rev,
+#[tactic(auto, unfolding(crate::specs::Words::ain_words, crate::specs::Words::ain_of))]
+impl Layout for AinBlock {
+    ghost words = { Words.ain_words };
+
+    ghost read = { Words.ain_of };
+
+    ghost width = { 71 };
+
+    fn put(self, to: &mut Writer) {
+        self.settings.put(to);
+        self.state.put(to);
+        self.st_rev.put(to);
+        self.table.put(to);
+    }
+
+    fn take(from: &mut Reader) -> AinBlock {
+        AinBlock {
+            settings: Layout::take(from),
+            state: Layout::take(from),
+            st_rev: Layout::take(from),
+            table: Layout::take(from),
+        }
     }
 }
 
-fn dout_settings_at(s: &[u8], i: usize) -> dout::Settings
-    requires { 4 * i + 20 ≤ length s.now }
-    ensures { result ≡ dout_settings (words_in s.now) i }
-{
-    let target = word_at(s, i);
-    let invert = word_at(s, i + 1);
-    let fsafe_type = word_at(s, i + 2);
-    let fsafe_val_d = word_at(s, i + 3);
-    let fsafe_time = word_at(s, i + 4);
-    dout::Settings {
-        target: target,
-        invert: invert,
-        fsafe_type: fsafe_type,
-        fsafe_val_d: fsafe_val_d,
-        fsafe_time: fsafe_time,
+impl Layout for tot::Settings {
+    ghost words = { Words.tot_settings_words };
+
+    ghost read = { Words.tot_settings };
+
+    ghost width = { 5 };
+
+    fn put(self, to: &mut Writer) {
+        self.target.put(to);
+        self.set_tot.put(to);
+        self.mode_tot.put(to);
+        self.fail_tot.put(to);
+        self.preset_tot.put(to);
+    }
+
+    fn take(from: &mut Reader) -> tot::Settings {
+        tot::Settings {
+            target: Layout::take(from),
+            set_tot: Layout::take(from),
+            mode_tot: Layout::take(from),
+            fail_tot: Layout::take(from),
+            preset_tot: Layout::take(from),
+        }
     }
 }
 
-fn dout_state_at(s: &[u8], i: usize) -> dout::State
-    requires { 4 * i + 52 ≤ length s.now }
-    ensures { result ≡ dout_state (words_in s.now) i }
-{
-    let out = discrete_at(s, i);
-    let mode = word_at(s, i + 2);
-    let operator = discrete_at(s, i + 3);
-    let sp = input_d_at(s, i + 5);
-    let rcas_in = input_d_at(s, i + 9);
-    dout::State {
-        out: out,
-        mode: mode,
-        operator: operator,
-        sp: sp,
-        rcas_in: rcas_in,
+impl Layout for tot::State {
+    ghost words = { Words.tot_state_words };
+
+    ghost read = { Words.tot_state };
+
+    ghost width = { 8 };
+
+    fn put(self, to: &mut Writer) {
+        self.total.put(to);
+        self.out.put(to);
+        self.mode.put(to);
+        self.rate.put(to);
+        self.operator_status.put(to);
+    }
+
+    fn take(from: &mut Reader) -> tot::State {
+        tot::State {
+            total: Layout::take(from),
+            out: Layout::take(from),
+            mode: Layout::take(from),
+            rate: Layout::take(from),
+            operator_status: Layout::take(from),
+        }
     }
 }
 
-fn dout_at(s: &[u8], i: usize) -> DoutBlock
-    requires { 4 * i + 76 ≤ length s.now }
-    ensures { result ≡ dout_of (words_in s.now) i }
-{
-    let settings = dout_settings_at(s, i);
-    let state = dout_state_at(s, i + 5);
-    let st_rev = half_at(s, i + 18);
-    DoutBlock {
-        settings: settings,
-        state: state,
-        st_rev: st_rev,
+#[tactic(auto, unfolding(crate::specs::Words::tot_words, crate::specs::Words::tot_of))]
+impl Layout for TotBlock {
+    ghost words = { Words.tot_words };
+
+    ghost read = { Words.tot_of };
+
+    ghost width = { 14 };
+
+    fn put(self, to: &mut Writer) {
+        self.settings.put(to);
+        self.state.put(to);
+        self.st_rev.put(to);
+    }
+
+    fn take(from: &mut Reader) -> TotBlock {
+        TotBlock {
+            settings: Layout::take(from),
+            state: Layout::take(from),
+            st_rev: Layout::take(from),
+        }
     }
 }
 
-fn device_at(s: &[u8]) -> Device
-    requires { 564 ≤ length s.now }
-    ensures { result ≡ device_of (words_in s.now) }
-{
-    let write_locking = word_at(s, 1);
-    let ain = ain_at(s, 2);
-    let tot = tot_at(s, 73);
-    let ao = ao_at(s, 87);
-    let di = di_at(s, 110);
-    let dout = dout_at(s, 122);
-    Device {
-        write_locking: write_locking,
-        ain: ain,
-        tot: tot,
-        ao: ao,
-        di: di,
-        dout: dout,
+impl Layout for ao::Settings {
+    ghost words = { Words.ao_settings_words };
+
+    ghost read = { Words.ao_settings };
+
+    ghost width = { 9 };
+
+    fn put(self, to: &mut Writer) {
+        self.target.put(to);
+        self.pv_scale.put(to);
+        self.out_scale.put(to);
+        self.fsafe_time.put(to);
+        self.fsafe_type.put(to);
+        self.fsafe_value.put(to);
+        self.increase_close.put(to);
+    }
+
+    fn take(from: &mut Reader) -> ao::Settings {
+        ao::Settings {
+            target: Layout::take(from),
+            pv_scale: Layout::take(from),
+            out_scale: Layout::take(from),
+            fsafe_time: Layout::take(from),
+            fsafe_type: Layout::take(from),
+            fsafe_value: Layout::take(from),
+            increase_close: Layout::take(from),
+        }
+    }
+}
+
+impl Layout for ao::State {
+    ghost words = { Words.ao_state_words };
+
+    ghost read = { Words.ao_state };
+
+    ghost width = { 13 };
+
+    fn put(self, to: &mut Writer) {
+        self.out.put(to);
+        self.mode.put(to);
+        self.operator.put(to);
+        self.sp.put(to);
+        self.rcas_in.put(to);
+    }
+
+    fn take(from: &mut Reader) -> ao::State {
+        ao::State {
+            out: Layout::take(from),
+            mode: Layout::take(from),
+            operator: Layout::take(from),
+            sp: Layout::take(from),
+            rcas_in: Layout::take(from),
+        }
+    }
+}
+
+#[tactic(auto, unfolding(crate::specs::Words::ao_words, crate::specs::Words::ao_of))]
+impl Layout for AoBlock {
+    ghost words = { Words.ao_words };
+
+    ghost read = { Words.ao_of };
+
+    ghost width = { 23 };
+
+    fn put(self, to: &mut Writer) {
+        self.settings.put(to);
+        self.state.put(to);
+        self.st_rev.put(to);
+    }
+
+    fn take(from: &mut Reader) -> AoBlock {
+        AoBlock {
+            settings: Layout::take(from),
+            state: Layout::take(from),
+            st_rev: Layout::take(from),
+        }
+    }
+}
+
+impl Layout for di::Settings {
+    ghost words = { Words.di_settings_words };
+
+    ghost read = { Words.di_settings };
+
+    ghost width = { 4 };
+
+    fn put(self, to: &mut Writer) {
+        self.target.put(to);
+        self.invert.put(to);
+        self.fsafe_type.put(to);
+        self.fsafe_val_d.put(to);
+    }
+
+    fn take(from: &mut Reader) -> di::Settings {
+        di::Settings {
+            target: Layout::take(from),
+            invert: Layout::take(from),
+            fsafe_type: Layout::take(from),
+            fsafe_val_d: Layout::take(from),
+        }
+    }
+}
+
+impl Layout for di::State {
+    ghost words = { Words.di_state_words };
+
+    ghost read = { Words.di_state };
+
+    ghost width = { 7 };
+
+    fn put(self, to: &mut Writer) {
+        self.out.put(to);
+        self.mode.put(to);
+        self.last.put(to);
+        self.operator.put(to);
+    }
+
+    fn take(from: &mut Reader) -> di::State {
+        di::State {
+            out: Layout::take(from),
+            mode: Layout::take(from),
+            last: Layout::take(from),
+            operator: Layout::take(from),
+        }
+    }
+}
+
+#[tactic(auto, unfolding(crate::specs::Words::di_words, crate::specs::Words::di_of))]
+impl Layout for DiBlock {
+    ghost words = { Words.di_words };
+
+    ghost read = { Words.di_of };
+
+    ghost width = { 12 };
+
+    fn put(self, to: &mut Writer) {
+        self.settings.put(to);
+        self.state.put(to);
+        self.st_rev.put(to);
+    }
+
+    fn take(from: &mut Reader) -> DiBlock {
+        DiBlock {
+            settings: Layout::take(from),
+            state: Layout::take(from),
+            st_rev: Layout::take(from),
+        }
+    }
+}
+
+impl Layout for dout::Settings {
+    ghost words = { Words.dout_settings_words };
+
+    ghost read = { Words.dout_settings };
+
+    ghost width = { 5 };
+
+    fn put(self, to: &mut Writer) {
+        self.target.put(to);
+        self.invert.put(to);
+        self.fsafe_type.put(to);
+        self.fsafe_val_d.put(to);
+        self.fsafe_time.put(to);
+    }
+
+    fn take(from: &mut Reader) -> dout::Settings {
+        dout::Settings {
+            target: Layout::take(from),
+            invert: Layout::take(from),
+            fsafe_type: Layout::take(from),
+            fsafe_val_d: Layout::take(from),
+            fsafe_time: Layout::take(from),
+        }
+    }
+}
+
+impl Layout for dout::State {
+    ghost words = { Words.dout_state_words };
+
+    ghost read = { Words.dout_state };
+
+    ghost width = { 13 };
+
+    fn put(self, to: &mut Writer) {
+        self.out.put(to);
+        self.mode.put(to);
+        self.operator.put(to);
+        self.sp.put(to);
+        self.rcas_in.put(to);
+    }
+
+    fn take(from: &mut Reader) -> dout::State {
+        dout::State {
+            out: Layout::take(from),
+            mode: Layout::take(from),
+            operator: Layout::take(from),
+            sp: Layout::take(from),
+            rcas_in: Layout::take(from),
+        }
+    }
+}
+
+#[tactic(auto, unfolding(crate::specs::Words::dout_words, crate::specs::Words::dout_of))]
+impl Layout for DoutBlock {
+    ghost words = { Words.dout_words };
+
+    ghost read = { Words.dout_of };
+
+    ghost width = { 19 };
+
+    fn put(self, to: &mut Writer) {
+        self.settings.put(to);
+        self.state.put(to);
+        self.st_rev.put(to);
+    }
+
+    fn take(from: &mut Reader) -> DoutBlock {
+        DoutBlock {
+            settings: Layout::take(from),
+            state: Layout::take(from),
+            st_rev: Layout::take(from),
+        }
+    }
+}
+
+#[tactic(auto, unfolding(crate::specs::Words::device_words, crate::specs::Words::fields_of))]
+impl Layout for Device {
+    ghost words = { Words.device_words };
+
+    ghost read = { Words.fields_of };
+
+    ghost width = { 140 };
+
+    fn put(self, to: &mut Writer) {
+        self.write_locking.put(to);
+        self.ain.put(to);
+        self.tot.put(to);
+        self.ao.put(to);
+        self.di.put(to);
+        self.dout.put(to);
+    }
+
+    fn take(from: &mut Reader) -> Device {
+        Device {
+            write_locking: Layout::take(from),
+            ain: Layout::take(from),
+            tot: Layout::take(from),
+            ao: Layout::take(from),
+            di: Layout::take(from),
+            dout: Layout::take(from),
+        }
     }
 }
 
 // ---- pack and unpack
 
-// Packs a device into the front of a buffer, or changes nothing where it is too short.
-pub fn pack(d: Device, buf: &mut [u8]) -> Answer
-    ensures value { result ≡ pack_answer buf.old }
-    ensures buf_after { buf.new ≡ pack_bytes buf.old d }
-    ensures d_value { unpacked_of (packed_of d) ≡ accepted d }
+// Puts words into the front of a buffer, each highest byte first.
+fn put_words(buf: &mut [u8], words: &[u32])
+    requires { 4 * length words.now ≤ length buf.old }
+    ensures { buf.new ≡ bytes_of words.now ++ drop (4 * length words.now) buf.old }
 {
-    let room = buf.len();
-    let first = first_words(d.write_locking);
-    let ain = ain_words(d.ain);
-    let table = table_words(d.ain.table);
-    let tot = tot_words(d.tot);
-    let ao = ao_words(d.ao);
-    let di = di_words(d.di);
-    let dout = dout_words(d.dout);
-    if room < PACKED {
-        return Answer::Refused(Refusal::WrongLength);
+    for (i, word) in words.iter().enumerate() {
+        buf[4 * i..4 * i + 4].copy_from_slice(&word.to_be_bytes());
     }
-    put_words(buf, 0, &first);
-    put_words(buf, 8, &ain);
-    put_words(buf, 120, &table);
-    put_words(buf, 292, &tot);
-    put_words(buf, 348, &ao);
-    put_words(buf, 440, &di);
-    put_words(buf, 488, &dout);
-    Answer::Accepted
 }
 
-fn refused(number: u8) -> Unpacked
-    ensures { result ≡ refused_by number }
+// Packs a device into the front of a buffer, or changes nothing where it is too short.
+pub fn pack(d: Device, buf: &mut [u8]) -> Result<(), Refusal>
+    ensures value { result ≡ pack_answer buf.old }
+    ensures buf_after { buf.new ≡ pack_bytes buf.old d }
+    ensures d_value { unpacked_of (packed_of d) ≡ Ok d }
 {
-    let device = device::factory();
-    Unpacked {
-        device: device,
-        answer: number,
+    let mut to = Writer::new();
+    to.push(LAYOUT_VERSION);
+    d.put(&mut to);
+    let words = to.words();
+    if buf.len() < PACKED {
+        return Err(Refusal::WrongLength);
     }
+    put_words(buf, words);
+    Ok(())
 }
 
 // The device that exactly these bytes are packed from.
-pub fn unpack(bytes: &[u8]) -> Unpacked
+pub fn unpack(bytes: &[u8]) -> Result<Device, NotUnpacked>
     ensures value { result ≡ unpacked_of bytes.now }
-    ensures device_value { result.answer ≡ 0 → packed_of result.device ≡ bytes.now }
+    ensures device_value { IfOk result (λ d. packed_of d ≡ bytes.now) }
 {
     if bytes.len() != PACKED {
-        return refused(7);
+        return Err(NotUnpacked::WrongLength);
     }
-    let device = device_at(bytes);
+    let mut from = Reader { left: bytes };
+    // The version is judged with all other bytes below.
+    from.next_word();
+    let device: Device = Layout::take(&mut from);
     let mut again = [0; PACKED];
-    pack(device, &mut again);
-    let same = check::same(bytes, &again);
-    if same {
-        return Unpacked {
-            device: device,
-            answer: 0,
-        };
+    let _ = pack(device, &mut again);
+    if check::same(bytes, &again) {
+        Ok(device)
+    } else {
+        Err(NotUnpacked::NotPacked)
     }
-    refused(255)
 }

@@ -7,16 +7,13 @@ use device::Device;
 use linearisation::Point;
 use packing::PACKED;
 use std::io;
-use wire::{Answer, Discrete, Pair};
+use wire::{Discrete, Pair, Refusal};
 
 // ---- a packed device
 
 // A byte of a buffer, and 0 after its end.
 fn byte(bytes: &[u8], at: usize) -> u8 {
-    if at < bytes.len() {
-        return bytes[at];
-    }
-    0
+    bytes.get(at).copied().unwrap_or(0)
 }
 
 fn show_byte(rt: &impl Print, bytes: &[u8], at: usize) -> io::Result<()> {
@@ -42,7 +39,7 @@ fn show_words(rt: &impl Print, name: &str, bytes: &[u8], from: u8, to: u8) -> io
     println!(rt)
 }
 
-fn show_answer(rt: &impl Print, answer: Answer) -> io::Result<()> {
+fn show_answer(rt: &impl Print, answer: Result<(), Refusal>) -> io::Result<()> {
     print!(rt; "{}", wire::answer_number(answer))
 }
 
@@ -89,33 +86,26 @@ fn show(rt: &impl Print, name: &str, d: Device) -> io::Result<()> {
 
 // ---- devices
 
-fn write(d: Device, block: u8, parameter: u8, a: u32, b: u32) -> Device {
-    let written = device::write(d, block, parameter, a, b);
-    written.device
-}
-
-fn telegram(d: Device, input: u8, bytes: &[u8]) -> Device {
-    let taken = device::telegram(d, input, bytes);
-    taken.device
-}
-
 // Written, ticked and locked: a filter time, limits on both sides, TOT in Man with a total below 0, a fail-safe time, a
 // setpoint, a tick that raises HI, and IFS on the other input; DI inverted, DO with a fail-safe time, and both of its inputs
 // as AO's.
 fn used() -> Device {
-    let mut d = device::factory();
-    d = write(d, 1, 16, 0x4100_0000, 0);
-    d = write(d, 1, 23, 0x4296_0000, 0);
-    d = write(d, 1, 25, 0xc120_0000, 0);
-    d = write(d, 2, 5, 0x10, 0);
-    d = write(d, 2, 10, 0xc020_0000, 0x80);
-    d = write(d, 3, 23, 5, 0);
-    d = write(d, 4, 15, 1, 0);
-    d = write(d, 5, 22, 7, 0);
-    d = telegram(d, 0, b"\x42\x48\x00\x00\x80");
-    d = telegram(d, 2, b"\x01\x80");
-    let ticked = device::tick(
-        d,
+    let mut d = Device::factory();
+    for (block, parameter, a, b) in [
+        (1, 16, 0x4100_0000, 0),
+        (1, 23, 0x4296_0000, 0),
+        (1, 25, 0xc120_0000, 0),
+        (2, 5, 0x10, 0),
+        (2, 10, 0xc020_0000, 0x80),
+        (3, 23, 5, 0),
+        (4, 15, 1, 0),
+        (5, 22, 7, 0),
+    ] {
+        let _ = d.write(block, parameter, a, b);
+    }
+    let _ = d.telegram(0, b"\x42\x48\x00\x00\x80");
+    let _ = d.telegram(2, b"\x01\x80");
+    d.tick(
         false,
         Pair {
             bits: 0x4296_0000,
@@ -130,24 +120,25 @@ fn used() -> Device {
             status: 0x80,
         },
     );
-    d = ticked.device;
-    d = telegram(d, 1, b"\x00\x00\x00\x00\xa0");
-    d = telegram(d, 3, b"\x00\xa0");
-    write(d, 0, 18, 0, 0)
+    let _ = d.telegram(1, b"\x00\x00\x00\x00\xa0");
+    let _ = d.telegram(3, b"\x00\xa0");
+    let _ = d.write(0, 18, 0, 0);
+    d
 }
 
 // By a table of three pairs, (0, -0) (50, 25.5) (100, 100).
 fn tabled() -> Device {
-    let loaded = device::load(
-        device::factory(),
+    let mut d = Device::factory();
+    let _ = d.load(
         b"\x00\x00\x00\x00\x80\x00\x00\x00\x42\x48\x00\x00\x41\xcc\x00\x00\x42\xc8\x00\x00\x42\xc8\x00\x00",
     );
-    write(loaded.device, 1, 13, 1, 0)
+    let _ = d.write(1, 13, 1, 0);
+    d
 }
 
 // Fields at the ends of their types, which no call leads to.
 fn ends() -> Device {
-    let mut d = device::factory();
+    let mut d = Device::factory();
     let mut ain = d.ain;
     let mut tot = d.tot;
     let mut settings = ain.settings;
@@ -215,12 +206,14 @@ fn ends() -> Device {
 
 // The answer, and of which device: the one that packs to these bytes, or the factory's.
 fn unpacked(rt: &impl Print, name: &str, bytes: &[u8]) -> io::Result<()> {
-    let u = packing::unpack(bytes);
+    let (device, answer) = match packing::unpack(bytes) {
+        Ok(device) => (device, 0),
+        Err(reason) => (Device::factory(), reason.number()),
+    };
     let mut again = [0u8; 564];
     let mut fresh = [0u8; 564];
-    packing::pack(u.device, &mut again);
-    packing::pack(device::factory(), &mut fresh);
-    let answer = u.answer;
+    let _ = packing::pack(device, &mut again);
+    let _ = packing::pack(Device::factory(), &mut fresh);
     print!(rt; "{name}: {answer}")?;
     if bytes == again.as_slice() {
         print!(rt; ", packs to the bytes")?;
@@ -231,29 +224,26 @@ fn unpacked(rt: &impl Print, name: &str, bytes: &[u8]) -> io::Result<()> {
     println!(rt)
 }
 
-fn set(bytes: [u8; 564], at: usize, value: u8) -> [u8; 564] {
-    let mut next = bytes;
-    if at < 564 {
-        next[at] = value;
+fn set(mut bytes: [u8; 564], at: usize, value: u8) -> [u8; 564] {
+    if let Some(place) = bytes.get_mut(at) {
+        *place = value;
     }
-    next
+    bytes
 }
 
 // The packed bytes of a device with one word, counted from 0, made another.
 fn changed(rt: &impl Print, name: &str, d: Device, i: u8, word: u32) -> io::Result<()> {
     let mut bytes = [0u8; 564];
-    packing::pack(d, &mut bytes);
-    let at = 4 * i as usize;
-    bytes = set(bytes, at, (word / 0x100_0000) as u8);
-    bytes = set(bytes, at + 1, (word / 0x1_0000 % 256) as u8);
-    bytes = set(bytes, at + 2, (word / 0x100 % 256) as u8);
-    bytes = set(bytes, at + 3, (word % 256) as u8);
+    let _ = packing::pack(d, &mut bytes);
+    for (k, byte) in word.to_be_bytes().into_iter().enumerate() {
+        bytes = set(bytes, 4 * usize::from(i) + k, byte);
+    }
     unpacked(rt, name, &bytes)
 }
 
 fn lengths(rt: &impl Print) -> io::Result<()> {
     let mut bytes = [0u8; 565];
-    packing::pack(used(), &mut bytes);
+    let _ = packing::pack(used(), &mut bytes);
     unpacked(rt, "no bytes", &bytes[0..0])?;
     unpacked(rt, "264 bytes", &bytes[0..264])?;
     unpacked(rt, "440 bytes", &bytes[0..440])?;
@@ -331,11 +321,11 @@ fn with_total(d: Device, z: i64) -> Device {
 }
 
 fn main(rt: HostRuntime) -> io::Result<()> {
-    show(&rt, "factory", device::factory())?;
+    show(&rt, "factory", Device::factory())?;
     show(&rt, "used", used())?;
     show(&rt, "tabled", tabled())?;
     show(&rt, "ends", ends())?;
-    changed(&rt, "factory", device::factory(), 0, 3)?;
+    changed(&rt, "factory", Device::factory(), 0, 3)?;
     changed(&rt, "used", used(), 0, 3)?;
     changed(&rt, "tabled", tabled(), 0, 3)?;
     changed(&rt, "ends", ends(), 0, 3)?;

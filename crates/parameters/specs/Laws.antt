@@ -1,5 +1,5 @@
 -- Laws of the table that callers cite: what its rows say holds of every block and number; accepted words are allowed, and those read back. Assumes nothing.
-use Rattle.std.specs.Prelude.{ℕ, zero, suc, ◌<◌, ◌^◌, ◌≡◌, Bool, not, ◌&&◌, ◌||◌, cond, leb, pos}
+use Rattle.std.specs.Prelude.{ℕ, zero, suc, ◌<◌, ◌^◌, ◌≡◌, Bool, not, ◌&&◌, ◌||◌, cond, leb, pos, Ok, Err}
 use Rattle.std.proofs.Math.Path.{refl, subst}
 use Rattle.std.proofs.Common.{sym, arith, eqb→eq, eqb-true, ne_eqb}
 use Rattle.std.proofs.Math.Bool.{true, false}
@@ -11,8 +11,8 @@ use Rattle.std.specs.Float.Ieee.Scale.{finite}
 use Rattle.numbers.specs.Floats.{float_of, bits_of, finite_or, within}
 use Rattle.numbers.specs.FloatLaws.{word_back, finite_number, finite_or-number, within-number}
 use Rattle.scaling.specs.Scaling.{allowed_scale}
-use Rattle.wire.specs.declared.Answer.TheVariants.{Accepted, Refused}
 use Rattle.wire.specs.declared.Refusal.{Refusal}
+use Rattle.wire.specs.Refusal.{granted}
 use Rattle.wire.specs.declared.Refusal.TheVariants.{ReadOnly, Locked, WordsNotAllowed, NotMan}
 use Rattle.blocks.specs.Common.{out_of_service, man, auto, rcas}
 use Rattle.parameters.specs.declared.Words.{Words}
@@ -116,15 +116,15 @@ takes NoBlock a b = false
 takes NoParameter a b = false
 takes (Parameter class allowed) a b = not (read_only class) && allows_of allowed a b
 
-refused-other : (r : Refusal) → Refused r ≡ Accepted → ⊥
+refused-other : (r : Refusal) → Err r ≡ granted → ⊥
 refused-other r e = let z : ◌≡◌ {A = ℕ} 0 1 = cc in omega arith
 
-pub accepted-takes : (s : Standing) (block number a b : ℕ) → ground s block number a b ≡ Accepted → T (takes (entry_of block number) a b)
+pub accepted-takes : (s : Standing) (block number a b : ℕ) → ground s block number a b ≡ granted → T (takes (entry_of block number) a b)
 unfolding ground
 accepted-takes s block number a b e = by (entry_of block number) e
   where
     go : (r l w t m : Bool)
-        → cond r (Refused ReadOnly) (cond l (Refused Locked) (cond (not (w && not t)) (Refused WordsNotAllowed) (cond m (Refused NotMan) Accepted))) ≡ Accepted
+        → cond r (Err ReadOnly) (cond l (Err Locked) (cond (not (w && not t)) (Err WordsNotAllowed) (cond m (Err NotMan) granted))) ≡ granted
         → T (not r && w)
     go false false true false false e = tt
     go true l w t m e = absurd (refused-other _ e)
@@ -133,7 +133,7 @@ accepted-takes s block number a b e = by (entry_of block number) e
     go false false true true m e = absurd (refused-other _ e)
     go false false true false true e = absurd (refused-other _ e)
 
-    by : (x : Entry) → ground_by s block number a b x ≡ Accepted → T (takes x a b)
+    by : (x : Entry) → ground_by s block number a b x ≡ granted → T (takes x a b)
     by NoBlock e = absurd (refused-other _ e)
     by NoParameter e = absurd (refused-other _ e)
     by (Parameter class allowed) e =

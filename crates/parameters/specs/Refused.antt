@@ -1,7 +1,6 @@
 -- Whether a write is accepted, document 01, Refused calls: one function of what stands and the call. Assumes nothing.
-use Rattle.std.specs.Prelude.{ℕ, Bool, true, false, not, ◌&&◌, cond, eqb}
-use Rattle.wire.specs.declared.Answer.{Answer}
-use Rattle.wire.specs.declared.Answer.TheVariants.{Accepted, Refused}
+use Rattle.std.specs.Prelude.{ℕ, Bool, true, false, not, ◌&&◌, cond, eqb, Ok, Err}
+use Rattle.wire.specs.Refusal.{granted, Answer}
 use Rattle.wire.specs.Refusal as Refusal
 use Rattle.blocks.specs.Common.{man}
 use Rattle.parameters.specs.declared.Class.{Class}
@@ -62,13 +61,13 @@ lacks_table s block number a = eqb block 1 && eqb number 13 && eqb a 1 && not s.
 -- written (4; block 0 has WRITE_LOCKING alone, and its only other value is 2457), words not allowed, or a table lacking (5), an output, its target being
 -- other than Man (6)
 abbrev pub ground_by : Standing → ℕ → ℕ → ℕ → ℕ → Entry → Answer
-ground_by s block number a b NoBlock = Refused (Refusal.ground 1)
-ground_by s block number a b NoParameter = Refused (Refusal.ground 2)
+ground_by s block number a b NoBlock = Err (Refusal.ground 1)
+ground_by s block number a b NoParameter = Err (Refusal.ground 2)
 ground_by s block number a b (Parameter class allowed) =
-    cond (read_only class) (Refused (Refusal.ground 3))
-    (cond (eqb s.lock 0 && not (eqb block 0)) (Refused (Refusal.ground 4))
-    (cond (not (allows_of allowed a b && not (lacks_table s block number a))) (Refused (Refusal.ground 5))
-    (cond (output allowed && not (eqb (target_in s block) man)) (Refused (Refusal.ground 6)) Accepted)))
+    cond (read_only class) (Err (Refusal.ground 3))
+    (cond (eqb s.lock 0 && not (eqb block 0)) (Err (Refusal.ground 4))
+    (cond (not (allows_of allowed a b && not (lacks_table s block number a))) (Err (Refusal.ground 5))
+    (cond (output allowed && not (eqb (target_in s block) man)) (Err (Refusal.ground 6)) granted)))
 
 unfoldable pub ground : Standing → ℕ → ℕ → ℕ → ℕ → Answer
 ground s block number a b = ground_by s block number a b (entry_of block number)

@@ -9,7 +9,7 @@ ghost use Rattle.parameters.specs.Refused.{read_only, output, target_in, lacks_t
 
 use numbers::floats::{float_of, is_finite, is_finite_or, is_within};
 use scaling::Scale;
-use wire::{Answer, Refusal};
+use wire::Refusal;
 
 // Storage class: static, kept but not in ST_REV, dynamic, read-only.
 #[derive(Clone, Copy)]
@@ -219,7 +219,7 @@ pub fn allows(allowed: Allowed, a: u32, b: u32) -> bool
         Allowed::UpTo(n) => (a <= n) & one,
         Allowed::Ends => {
             let high = float_of(b);
-            scaling::is_allowed(Scale { low: x, high: high })
+            Scale { low: x, high }.is_allowed()
         }
         Allowed::Within(low, high) => is_within(x, low, high) & one,
         Allowed::Finite => is_finite(x) & one,
@@ -292,13 +292,13 @@ fn lacks_table(s: Standing, block: u8, parameter: u8, a: u32) -> bool
 
 // What a write is answered.
 #[tactic(auto, unfolding(crate::specs::Refused::ground))]
-pub fn answer_to(s: Standing, block: u8, parameter: u8, a: u32, b: u32) -> Answer
+pub fn answer_to(s: Standing, block: u8, parameter: u8, a: u32, b: u32) -> Result<(), Refusal>
     ensures { result ≡ ground s block parameter a b }
 {
     let entry = entry_of(block, parameter);
     match entry {
-        Entry::NoBlock => Answer::Refused(Refusal::NoSuchBlock),
-        Entry::NoParameter => Answer::Refused(Refusal::NoSuchParameter),
+        Entry::NoBlock => Err(Refusal::NoSuchBlock),
+        Entry::NoParameter => Err(Refusal::NoSuchParameter),
         Entry::Parameter(class, allowed) => {
             let fixed = is_read_only(class);
             let locked = (s.lock == 0) & !(block == 0);
@@ -306,18 +306,18 @@ pub fn answer_to(s: Standing, block: u8, parameter: u8, a: u32, b: u32) -> Answe
             let allowed_words = allows(allowed, a, b) & !lacking;
             let away = is_output(allowed) & !(target_in(s, block) == blocks::MAN);
             if fixed {
-                return Answer::Refused(Refusal::ReadOnly);
+                return Err(Refusal::ReadOnly);
             }
             if locked {
-                return Answer::Refused(Refusal::Locked);
+                return Err(Refusal::Locked);
             }
             if !allowed_words {
-                return Answer::Refused(Refusal::WordsNotAllowed);
+                return Err(Refusal::WordsNotAllowed);
             }
             if away {
-                return Answer::Refused(Refusal::NotMan);
+                return Err(Refusal::NotMan);
             }
-            Answer::Accepted
+            Ok(())
         }
     }
 }

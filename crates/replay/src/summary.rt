@@ -1,15 +1,30 @@
 // What a run was answered, counted, and told on standard error at its end.
-ghost use Rattle.std.specs.Prelude.{◌<◌};
-
-use ain::Alarms;
 use ao::Order;
 use device::Device;
 use script::Answer;
 use std::io;
 use wire::{Discrete, Pair};
 
+// A value for each block with a fail-safe.
+#[derive(Clone, Copy, Default)]
+pub struct Blocks<T> {
+    pub ain: T,
+    pub ao: T,
+    pub di: T,
+    pub dout: T,
+}
+
+// How often each alarm of AIN rose.
+#[derive(Clone, Copy, Default)]
+pub struct Rises {
+    pub hi_hi: u64,
+    pub hi: u64,
+    pub lo: u64,
+    pub lo_lo: u64,
+}
+
 // Refusals are numbered from 1 on; a larger number than the array has places for would be counted in its place 0.
-#[derive(Clone, Copy)]
+#[derive(Clone, Copy, Default)]
 pub struct Counts {
     pub lines: u64,
     pub calls: u64,
@@ -17,43 +32,14 @@ pub struct Counts {
     pub refusals: u64,
     pub refused: [u64; 16],
     // The line of the first refusal, and of the first error.
-    pub first_refused: u64,
+    pub first_refused: Option<u64>,
     pub errors: u64,
-    pub first_error: u64,
+    pub first_error: Option<u64>,
     // Errors in lines that end in a carriage return.
     pub returns: u64,
-    // How often each alarm of AIN rose.
-    pub hi_hi: u64,
-    pub hi: u64,
-    pub lo: u64,
-    pub lo_lo: u64,
+    pub rises: Rises,
     // Ticks in which each block was in fail-safe.
-    pub ain: u64,
-    pub ao: u64,
-    pub di: u64,
-    pub dout: u64,
-}
-
-pub fn nothing() -> Counts {
-    Counts {
-        lines: 0,
-        calls: 0,
-        ticks: 0,
-        refusals: 0,
-        refused: [0; 16],
-        first_refused: 0,
-        errors: 0,
-        first_error: 0,
-        returns: 0,
-        hi_hi: 0,
-        hi: 0,
-        lo: 0,
-        lo_lo: 0,
-        ain: 0,
-        ao: 0,
-        di: 0,
-        dout: 0,
-    }
+    pub failed: Blocks<u64>,
 }
 
 // ---- ticks
@@ -78,11 +64,7 @@ fn ao_fails(d: Device, fault: bool) -> bool {
     settings.fsafe_type = 2;
     let state = block.state;
     let next = ao::tick(settings, state, fault);
-    let order = next.order;
-    match order {
-        Order::Safe => true,
-        _ => false,
-    }
+    matches!(next.order, Order::Safe)
 }
 
 // DI and DO, in the same way.
@@ -103,33 +85,12 @@ fn dout_fails(d: Device, fault: bool) -> bool {
     settings.fsafe_type = 2;
     let state = block.state;
     let next = dout::tick(settings, state, fault);
-    let order = next.order;
-    match order {
-        dout::Order::Safe => true,
-        _ => false,
-    }
+    matches!(next.order, dout::Order::Safe)
 }
 
 // Which blocks go by their fail-safe in a tick.
-#[derive(Clone, Copy)]
-pub struct Fails {
-    pub ain: bool,
-    pub ao: bool,
-    pub di: bool,
-    pub dout: bool,
-}
-
-pub fn none() -> Fails {
-    Fails {
-        ain: false,
-        ao: false,
-        di: false,
-        dout: false,
-    }
-}
-
-pub fn failing(d: Device, fault: bool, ain: Pair, di: Discrete) -> Fails {
-    Fails {
+pub fn failing(d: Device, fault: bool, ain: Pair, di: Discrete) -> Blocks<bool> {
+    Blocks {
         ain: ain_fails(d, fault, ain),
         ao: ao_fails(d, fault),
         di: di_fails(d, fault, di),
@@ -139,90 +100,57 @@ pub fn failing(d: Device, fault: bool, ain: Pair, di: Discrete) -> Fails {
 
 // ---- counting
 
-// One more, where it is so. A count that is full stays.
-fn more(n: u64, so: bool) -> u64 {
-    if so {
-        if n < u64::MAX {
-            return n + 1;
+// Counts one more, where it is so. A count that is full stays.
+fn more(n: &mut u64, so: bool) {
+    *n = n.saturating_add(so.into());
+}
+
+// Of a line that is not too long: of a longer one, not all is held.
+fn ends_in_return(line: &[u8]) -> bool {
+    line.len() <= 4096 && line.ends_with(b"\r")
+}
+
+impl Counts {
+    // A tick: the device before and after it, and which blocks were in fail-safe.
+    pub fn tick(&mut self, before: Device, after: Device, fails: Blocks<bool>) {
+        let old = before.ain.state.alarms;
+        let new = after.ain.state.alarms;
+        more(&mut self.ticks, true);
+        more(&mut self.rises.hi_hi, new.hi_hi & !old.hi_hi);
+        more(&mut self.rises.hi, new.hi & !old.hi);
+        more(&mut self.rises.lo, new.lo & !old.lo);
+        more(&mut self.rises.lo_lo, new.lo_lo & !old.lo_lo);
+        more(&mut self.failed.ain, fails.ain);
+        more(&mut self.failed.ao, fails.ao);
+        more(&mut self.failed.di, fails.di);
+        more(&mut self.failed.dout, fails.dout);
+    }
+
+    fn refusal(&mut self, number: u8) {
+        more(&mut self.refusals, true);
+        self.first_refused = self.first_refused.or(Some(self.lines));
+        let place = if number < 16 { number as usize } else { 0 };
+        more(&mut self.refused[place], true);
+    }
+
+    fn error(&mut self, line: &[u8]) {
+        more(&mut self.errors, true);
+        self.first_error = self.first_error.or(Some(self.lines));
+        more(&mut self.returns, ends_in_return(line));
+    }
+
+    // A line, and its answer if it gets one.
+    pub fn line(&mut self, line: &[u8], answer: Option<Answer>) {
+        more(&mut self.lines, true);
+        match answer {
+            None => {}
+            Some(Answer::Error) => self.error(line),
+            Some(Answer::Refused(number)) => {
+                more(&mut self.calls, true);
+                self.refusal(number);
+            }
+            Some(_) => more(&mut self.calls, true),
         }
-    }
-    n
-}
-
-fn first(line: u64, now: u64) -> u64 {
-    if line > 0 {
-        return line;
-    }
-    now
-}
-
-fn ticked(c: Counts, old: Alarms, new: Alarms, fails: Fails) -> Counts {
-    let mut next = c;
-    next.ticks = more(c.ticks, true);
-    next.hi_hi = more(c.hi_hi, new.hi_hi & !old.hi_hi);
-    next.hi = more(c.hi, new.hi & !old.hi);
-    next.lo = more(c.lo, new.lo & !old.lo);
-    next.lo_lo = more(c.lo_lo, new.lo_lo & !old.lo_lo);
-    next.ain = more(c.ain, fails.ain);
-    next.ao = more(c.ao, fails.ao);
-    next.di = more(c.di, fails.di);
-    next.dout = more(c.dout, fails.dout);
-    next
-}
-
-fn place(number: u8) -> usize
-    ensures { result < 16 }
-{
-    if number < 16 {
-        return number as usize;
-    }
-    0
-}
-
-fn refused(c: Counts, number: u8) -> Counts {
-    let mut next = c;
-    next.refusals = more(c.refusals, true);
-    next.first_refused = first(c.first_refused, c.lines);
-    let at = place(number);
-    next.refused[at] = more(next.refused[at], true);
-    next
-}
-
-fn mistaken(c: Counts, carriage_return: bool) -> Counts {
-    let mut next = c;
-    next.errors = more(c.errors, true);
-    next.first_error = first(c.first_error, c.lines);
-    next.returns = more(c.returns, carriage_return);
-    next
-}
-
-// Whether a line asked for a call.
-fn is_call(answer: Answer) -> bool {
-    match answer {
-        Answer::Nothing => false,
-        Answer::Error => false,
-        _ => true,
-    }
-}
-
-// The counts after a line: the alarms before and after it, its answer, which blocks were in fail-safe, and whether the line ends in
-// a carriage return.
-pub fn counted(
-    c: Counts,
-    old: Alarms,
-    new: Alarms,
-    answer: Answer,
-    fails: Fails,
-    carriage_return: bool,
-) -> Counts {
-    let mut next = c;
-    next.lines = more(c.lines, true);
-    next.calls = more(c.calls, is_call(answer));
-    match answer {
-        Answer::Error => mistaken(next, carriage_return),
-        Answer::Refused(number) => refused(next, number),
-        Answer::Orders(_, _) => ticked(next, old, new, fails),
-        _ => next,
     }
 }
 
@@ -250,18 +178,17 @@ fn each_refusal(rt: &impl Eprint, refused: &[u64]) -> io::Result<()> {
 
 fn tell_refusals(rt: &impl Eprint, c: Counts) -> io::Result<()> {
     eprint!(rt; "summary: refused: {}", c.refusals)?;
-    if c.refusals > 0 {
-        let refused = c.refused;
-        each_refusal(rt, &refused)?;
-        eprint!(rt; ", the first in line {}", c.first_refused)?;
+    if let Some(line) = c.first_refused {
+        each_refusal(rt, &c.refused)?;
+        eprint!(rt; ", the first in line {line}")?;
     }
     eprintln!(rt)
 }
 
 fn tell_errors(rt: &impl Eprint, c: Counts) -> io::Result<()> {
     eprint!(rt; "summary: errors: {}", c.errors)?;
-    if c.errors > 0 {
-        eprint!(rt; ", the first in line {}", c.first_error)?;
+    if let Some(line) = c.first_error {
+        eprint!(rt; ", the first in line {line}")?;
     }
     eprintln!(rt)?;
     if c.returns > 0 {
@@ -286,10 +213,10 @@ pub fn tell(rt: &impl Eprint, c: Counts) -> io::Result<()> {
     tell_errors(rt, c)?;
     eprintln!(rt;
         "summary: alarms that rose: HI_HI {}, HI {}, LO {}, LO_LO {}",
-        c.hi_hi, c.hi, c.lo, c.lo_lo
+        c.rises.hi_hi, c.rises.hi, c.rises.lo, c.rises.lo_lo
     )?;
     eprintln!(rt;
         "summary: ticks in fail-safe: AIN {}, AO {}, DI {}, DO {}",
-        c.ain, c.ao, c.di, c.dout
+        c.failed.ain, c.failed.ao, c.failed.di, c.failed.dout
     )
 }

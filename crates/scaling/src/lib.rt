@@ -4,6 +4,8 @@
 ghost use Rattle.std.specs.Prelude.{◌≡◌};
 ghost use Rattle.scaling.specs.Scaling.{fraction_of, at_fraction, allowed_scale};
 
+use numbers::floats::is_finite;
+
 #[repr(C)]
 #[derive(Clone, Copy)]
 pub struct Scale {
@@ -11,27 +13,28 @@ pub struct Scale {
     pub high: f32,
 }
 
-// Where x lies between the ends: 0 at the low one, 1 at the high one.
-pub fn fraction(x: f32, scale: Scale) -> f32
-    ensures { result ≡ fraction_of scale x }
-{
-    (x - scale.low) / (scale.high - scale.low)
-}
+impl Scale {
+    // Where x lies between the ends: 0 at the low one, 1 at the high one.
+    #[tactic(auto, unfolding(crate::specs::Scaling::fraction_of))]
+    pub fn fraction(self, x: f32) -> f32
+        ensures { result ≡ fraction_of self x }
+    {
+        (x - self.low) / (self.high - self.low)
+    }
 
-// What lies at that fraction between the ends.
-pub fn at_fraction(f: f32, scale: Scale) -> f32
-    ensures { result ≡ at_fraction scale f }
-{
-    f * (scale.high - scale.low) + scale.low
-}
+    // What lies at that fraction between the ends.
+    #[tactic(auto, unfolding(crate::specs::Scaling::at_fraction))]
+    pub fn at_fraction(self, f: f32) -> f32
+        ensures { result ≡ at_fraction self f }
+    {
+        f * (self.high - self.low) + self.low
+    }
 
-// Whether a scale may be written.
-pub fn is_allowed(scale: Scale) -> bool
-    ensures { result ≡ allowed_scale scale }
-{
-    let low = scale.low;
-    let high = scale.high;
-    let low_finite = numbers::floats::is_finite(low);
-    let high_finite = numbers::floats::is_finite(high);
-    low_finite & high_finite & (low != high)
+    // Whether a scale may be written.
+    #[tactic(auto, unfolding(crate::specs::Scaling::allowed_scale))]
+    pub fn is_allowed(self) -> bool
+        ensures { result ≡ allowed_scale self }
+    {
+        is_finite(self.low) && is_finite(self.high) && self.low != self.high
+    }
 }

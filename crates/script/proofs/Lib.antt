@@ -1,2 +1,4 @@
--- What several proofs of `script` cite.
-mod Told
+-- The lemmas that several proofs share.
+pub mod Lines
+pub mod Told
+pub mod Written

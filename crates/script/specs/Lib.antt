@@ -3,3 +3,4 @@ pub mod Words
 pub mod Command
 pub mod Answer
 pub mod Laws
+pub mod Kept

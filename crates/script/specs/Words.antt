@@ -1,7 +1,5 @@
 -- The words of a line and the numbers that they stand for, by the call script. A line is a list of bytes, without its 0x0A. Assumes nothing.
-use Rattle.std.specs.Prelude.{ℕ, zero, suc, ◌-◌, ◌%◌, ◌≤◌, ◌≡◌, Bool, true, false, cond, ◌&&◌, List, [], ◌∷◌, ◌++◌, length, take, drop, leb, eqb}
-use Rattle.text.specs.declared.Number.{Number}
-use Rattle.text.specs.declared.Number.TheVariants.{Value, Not}
+use Rattle.std.specs.Prelude.{ℕ, zero, suc, Option, Some, None, ◌%◌, Bool, true, false, cond, ◌&&◌, List, [], ◌∷◌, ◌++◌, length, replicate, leb, eqb}
 use Rattle.text.specs.Number.{word_number}
 
 -- ---- words
@@ -33,37 +31,29 @@ abbrev pub rest_of : List (List ℕ) → List (List ℕ)
 rest_of [] = []
 rest_of (w ∷ ws) = ws
 
--- the bytes of a line from one place to another
-abbrev pub between : List ℕ → ℕ → ℕ → List ℕ
-between line from to = take (to - from) (drop from line)
-
--- from and to are the ends of the first word from a place of a line on; they are equal where there is none
-pub record NextWord (line : List ℕ) (at from to : ℕ) : Type 0 where
-  pub ordered : from ≤ to
-  pub within : to ≤ length line
-  pub first : between line from to ≡ first_of (words_of (drop at line))
-  pub rest : words_of (drop to line) ≡ rest_of (words_of (drop at line))
-  pub none : eqb from to ≡ is_empty (words_of (drop at line))
-
 -- ---- numbers
 
 -- "A number is decimal, or hexadecimal after `0x`": no word stands for one over 4,294,967,295, the highest limit
-unfoldable pub number_of : List ℕ → Number
+unfoldable pub number_of : List ℕ → Option ℕ
 number_of w = word_number w 4294967295
 
-abbrev pub up_to : ℕ → Number → Bool
-up_to limit (Value n) = leb n limit
-up_to limit Not = false
+abbrev pub up_to : ℕ → Option ℕ → Bool
+up_to limit (Some n) = leb n limit
+up_to limit None = false
 
 -- the value of a number; 0 where there is none
-abbrev pub value_of : Number → ℕ
-value_of (Value n) = n
-value_of Not = 0
+abbrev pub value_of : Option ℕ → ℕ
+value_of (Some n) = n
+value_of None = 0
 
 -- the words are numbers up to their limits, one for each limit, and none is left
 unfoldable pub fitting : List ℕ → List (List ℕ) → Bool
 fitting [] ws = is_empty ws
 fitting (limit ∷ limits) ws = up_to limit (number_of (first_of ws)) && fitting limits (rest_of ws)
+
+-- "BYTE BYTE ..": at most so many, each 0 to 255
+abbrev pub are_bytes : ℕ → List (List ℕ) → Bool
+are_bytes most ws = leb (length ws) most && fitting (replicate (length ws) 255) ws
 
 -- what each of the first n words gives
 unfoldable pub each_of : (List ℕ → ℕ) → ℕ → List (List ℕ) → List ℕ
@@ -78,7 +68,7 @@ abbrev pub values_of : ℕ → List (List ℕ) → List ℕ
 values_of = each_of word_value
 
 -- the lowest byte of a number
-abbrev pub byte_of : Number → ℕ
+abbrev pub byte_of : Option ℕ → ℕ
 byte_of n = value_of n % 256
 
 abbrev pub word_byte : List ℕ → ℕ

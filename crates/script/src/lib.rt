@@ -4,19 +4,16 @@
 mod answers;
 mod words;
 
-ghost use Rattle.std.specs.Prelude.{◌≡◌, ◌≤◌, length, drop};
+ghost use Rattle.std.specs.Prelude.{◌≡◌, length, drop};
 ghost use Rattle.script.specs.Words.{words_of, bytes_of};
-ghost use Rattle.script.specs.Command.{name_of, alone_call, tick_call, telegram_call, write_call, read_call, image_call, part_call, load_call, call_of, command_of};
+ghost use Rattle.script.specs.Command.{name_of, alone_call, tick_call, telegram_call, write_call, read_call, image_call, part_call, load_call, call_of, named_call, command_of};
 
 pub use answers::put_answer;
+use words::{Words, same};
 
 // What a line asks for.
 #[derive(Clone, Copy)]
 pub enum Command {
-    // A line that gets no answer.
-    Nothing,
-    // A line that is answered `error`.
-    Error,
     Factory,
     Tick {
         fault: bool,
@@ -57,6 +54,10 @@ pub enum Command {
     },
 }
 
+// A line that is answered `error`.
+#[derive(Clone, Copy, Debug, PartialEq, Eq)]
+pub struct BadLine;
+
 // A drive order: AO's position is a float by its bits, DO's a discrete value.
 #[derive(Clone, Copy)]
 pub enum Order {
@@ -66,17 +67,16 @@ pub enum Order {
     Rest,
 }
 
-// What a call is answered. The bytes of `Bytes` are lent beside it.
+// What a call is answered. A refusal is its number: this crate knows no other than `text`.
 #[derive(Clone, Copy)]
-pub enum Answer {
-    Nothing,
+pub enum Answer<'a> {
     Ok,
     Error,
     Refused(u8),
     // AO's order, and DO's.
     Orders(Order, Order),
     Words(u32, u32),
-    Bytes,
+    Bytes(&'a [u8]),
     Total(i64),
 }
 
@@ -93,218 +93,188 @@ pub enum Name {
     Part,
     Total,
     Load,
-    Other,
 }
 
-const WORD: u64 = 0xffff_ffff;
+const WORD: u32 = u32::MAX;
 
-fn name_of(word: &[u8]) -> Name
+// Tried as a `match` on the byte strings: its 57 goals do not close.
+fn name_of(word: &[u8]) -> Option<Name>
     ensures { result ≡ name_of word.now }
 {
-    if words::same(word, b"tick") {
-        return Name::Tick;
+    if same(word, b"tick") {
+        return Some(Name::Tick);
     }
-    if words::same(word, b"factory") {
-        return Name::Factory;
+    if same(word, b"factory") {
+        return Some(Name::Factory);
     }
-    if words::same(word, b"telegram") {
-        return Name::Telegram;
+    if same(word, b"telegram") {
+        return Some(Name::Telegram);
     }
-    if words::same(word, b"write") {
-        return Name::Write;
+    if same(word, b"write") {
+        return Some(Name::Write);
     }
-    if words::same(word, b"warm") {
-        return Name::Warm;
+    if same(word, b"warm") {
+        return Some(Name::Warm);
     }
-    if words::same(word, b"read") {
-        return Name::Read;
+    if same(word, b"read") {
+        return Some(Name::Read);
     }
-    if words::same(word, b"image") {
-        return Name::Image;
+    if same(word, b"image") {
+        return Some(Name::Image);
     }
-    if words::same(word, b"part") {
-        return Name::Part;
+    if same(word, b"part") {
+        return Some(Name::Part);
     }
-    if words::same(word, b"total") {
-        return Name::Total;
+    if same(word, b"total") {
+        return Some(Name::Total);
     }
-    if words::same(word, b"load") {
-        return Name::Load;
+    if same(word, b"load") {
+        return Some(Name::Load);
     }
-    Name::Other
+    None
 }
 
 // A call with no argument.
-fn alone(line: &[u8], at: usize, command: Command) -> Command
-    requires { at ≤ length line.now }
-    ensures { result ≡ alone_call command (words_of (drop at line.now)) }
+fn alone(mut words: Words, command: Command) -> Option<Command>
+    ensures { result ≡ alone_call command (words_of words.entry.rest.now) }
 {
-    let end = words::is_end(line, at);
-    if end {
-        return command;
-    }
-    Command::Error
+    words.next().is_none().then_some(command)
 }
 
-fn tick(line: &[u8], at: usize) -> Command
-    requires { at ≤ length line.now }
-    ensures { result ≡ tick_call (words_of (drop at line.now)) }
+fn tick(words: Words) -> Option<Command>
+    ensures { result ≡ tick_call (words_of words.entry.rest.now) }
 {
-    let mut v = [0u64; 7];
-    let good = words::numbers(line, at, &[1, WORD, 255, WORD, 255, 255, 255], &mut v);
-    if good {
-        let fault = v[0] == 1;
-        return Command::Tick {
-            fault: fault,
-            ain_bits: v[1] as u32,
-            ain_status: v[2] as u8,
-            tot_bits: v[3] as u32,
-            tot_status: v[4] as u8,
-            di_value: v[5] as u8,
-            di_status: v[6] as u8,
-        };
-    }
-    Command::Error
+    let [
+        fault,
+        ain_bits,
+        ain_status,
+        tot_bits,
+        tot_status,
+        di_value,
+        di_status,
+    ] = words.numbers(&[1, WORD, 255, WORD, 255, 255, 255])?;
+    Some(Command::Tick {
+        fault: fault == 1,
+        ain_bits,
+        ain_status: ain_status as u8,
+        tot_bits,
+        tot_status: tot_status as u8,
+        di_value: di_value as u8,
+        di_status: di_status as u8,
+    })
 }
 
-fn telegram(line: &[u8], at: usize) -> Command
-    requires { at ≤ length line.now }
-    ensures { result ≡ telegram_call (words_of (drop at line.now)) }
+fn telegram(mut words: Words) -> Option<Command>
+    ensures { result ≡ telegram_call (words_of words.entry.rest.now) }
 {
-    let w = words::next_word(line, at);
-    let from = w.from;
-    let to = w.to;
-    let input = words::number(line, from, to);
-    let n = words::count(line, to);
-    let good = words::up_to(255, input) & (n <= 64) & words::are_bytes(line, to, n);
-    if good {
-        return Command::Telegram {
-            input: words::value(input) as u8,
-            length: n,
-        };
-    }
-    Command::Error
+    let input = words.number(255)? as u8;
+    let length = words.bytes(64)?;
+    Some(Command::Telegram { input, length })
 }
 
-fn write(line: &[u8], at: usize) -> Command
-    requires { at ≤ length line.now }
-    ensures { result ≡ write_call (words_of (drop at line.now)) }
+fn write(words: Words) -> Option<Command>
+    ensures { result ≡ write_call (words_of words.entry.rest.now) }
 {
-    let mut v = [0u64; 4];
-    let good = words::numbers(line, at, &[255, 255, WORD, WORD], &mut v);
-    if good {
-        return Command::Write {
-            block: v[0] as u8,
-            parameter: v[1] as u8,
-            first: v[2] as u32,
-            second: v[3] as u32,
-        };
-    }
-    Command::Error
+    let [block, parameter, first, second] = words.numbers(&[255, 255, WORD, WORD])?;
+    Some(Command::Write {
+        block: block as u8,
+        parameter: parameter as u8,
+        first,
+        second,
+    })
 }
 
-fn read(line: &[u8], at: usize) -> Command
-    requires { at ≤ length line.now }
-    ensures { result ≡ read_call (words_of (drop at line.now)) }
+fn read(words: Words) -> Option<Command>
+    ensures { result ≡ read_call (words_of words.entry.rest.now) }
 {
-    let mut v = [0u64; 2];
-    let good = words::numbers(line, at, &[255, 255], &mut v);
-    if good {
-        return Command::Read {
-            block: v[0] as u8,
-            parameter: v[1] as u8,
-        };
-    }
-    Command::Error
+    let [block, parameter] = words.numbers(&[255, 255])?;
+    Some(Command::Read {
+        block: block as u8,
+        parameter: parameter as u8,
+    })
 }
 
-fn image(line: &[u8], at: usize) -> Command
-    requires { at ≤ length line.now }
-    ensures { result ≡ image_call (words_of (drop at line.now)) }
+fn image(words: Words) -> Option<Command>
+    ensures { result ≡ image_call (words_of words.entry.rest.now) }
 {
-    let mut v = [0u64; 1];
-    let good = words::numbers(line, at, &[64], &mut v);
-    if good {
-        return Command::Image {
-            length: v[0] as usize,
-        };
-    }
-    Command::Error
+    let [length] = words.numbers(&[64])?;
+    Some(Command::Image {
+        length: length as usize,
+    })
 }
 
-fn part(line: &[u8], at: usize) -> Command
-    requires { at ≤ length line.now }
-    ensures { result ≡ part_call (words_of (drop at line.now)) }
+fn part(words: Words) -> Option<Command>
+    ensures { result ≡ part_call (words_of words.entry.rest.now) }
 {
-    let mut v = [0u64; 2];
-    let good = words::numbers(line, at, &[255, 64], &mut v);
-    if good {
-        return Command::Part {
-            block: v[0] as u8,
-            length: v[1] as usize,
-        };
-    }
-    Command::Error
+    let [block, length] = words.numbers(&[255, 64])?;
+    Some(Command::Part {
+        block: block as u8,
+        length: length as usize,
+    })
 }
 
-fn load(line: &[u8], at: usize) -> Command
-    requires { at ≤ length line.now }
-    ensures { result ≡ load_call (words_of (drop at line.now)) }
+fn load(words: Words) -> Option<Command>
+    ensures { result ≡ load_call (words_of words.entry.rest.now) }
 {
-    let n = words::count(line, at);
-    let good = (n <= 256) & words::are_bytes(line, at, n);
-    if good {
-        return Command::Load { length: n };
-    }
-    Command::Error
+    let length = words.bytes(256)?;
+    Some(Command::Load { length })
 }
 
-// The call of a name, whose arguments stand from `at` on.
-fn call(name: Name, line: &[u8], at: usize) -> Command
-    requires { at ≤ length line.now }
-    ensures { result ≡ call_of name (words_of (drop at line.now)) }
+// The call of a name, whose arguments are the words that follow it.
+#[tactic(auto, unfolding(crate::specs::Command::call_of))]
+fn call(name: Name, words: Words) -> Option<Command>
+    ensures { result ≡ call_of name (words_of words.entry.rest.now) }
 {
     match name {
-        Name::Factory => alone(line, at, Command::Factory),
-        Name::Tick => tick(line, at),
-        Name::Telegram => telegram(line, at),
-        Name::Write => write(line, at),
-        Name::Warm => alone(line, at, Command::Warm),
-        Name::Read => read(line, at),
-        Name::Image => image(line, at),
-        Name::Part => part(line, at),
-        Name::Total => alone(line, at, Command::Total),
-        Name::Load => load(line, at),
-        Name::Other => Command::Error,
+        Name::Factory => alone(words, Command::Factory),
+        Name::Tick => tick(words),
+        Name::Telegram => telegram(words),
+        Name::Write => write(words),
+        Name::Warm => alone(words, Command::Warm),
+        Name::Read => read(words),
+        Name::Image => image(words),
+        Name::Part => part(words),
+        Name::Total => alone(words, Command::Total),
+        Name::Load => load(words),
     }
 }
 
-// What a line asks for, given without its 0x0A.
-pub fn parse(line: &[u8]) -> Command
+// The call of a line's first word, and of the words that follow it.
+fn named(word: &[u8], words: Words) -> Option<Command>
+    ensures { result ≡ named_call (name_of word.now) (words_of words.entry.rest.now) }
+{
+    call(name_of(word)?, words)
+}
+
+// What a line asks for, given without its 0x0A: nothing where it has no word or is a remark.
+pub fn parse(line: &[u8]) -> Result<Option<Command>, BadLine>
     ensures { result ≡ command_of line.now }
 {
-    let long = line.len() > 4096;
-    if long {
-        return Command::Error;
+    if line.len() > 4096 {
+        return Err(BadLine);
     }
-    let w = words::next_word(line, 0);
-    let from = w.from;
-    let to = w.to;
-    if from == to {
-        return Command::Nothing;
+    let mut words = Words { rest: line };
+    let Some(word) = words.next() else {
+        return Ok(None);
+    };
+    if line[0] == b'#' {
+        return Ok(None);
     }
-    let remark = line[0] == b'#';
-    if remark {
-        return Command::Nothing;
+    match named(word, words) {
+        Some(command) => Ok(Some(command)),
+        None => Err(BadLine),
     }
-    let name = name_of(&line[from..to]);
-    call(name, line, to)
 }
 
 // The bytes of a line after its first `count` words: the numbers of the words that follow, one for each byte of out.
 pub fn bytes_after(line: &[u8], count: usize, out: &mut [u8])
     ensures { out.new ≡ bytes_of (length out.old) (drop count (words_of line.now)) }
 {
-    let at = words::after(line, count);
-    words::bytes(line, at, out);
+    let mut words = Words { rest: line };
+    for _ in 0..count {
+        words.next();
+    }
+    for byte in out.iter_mut() {
+        *byte = words.low_byte();
+    }
 }

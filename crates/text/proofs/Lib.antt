@@ -1,2 +1,2 @@
 -- The lemmas that several proofs share.
-pub mod Ends
+pub mod Decimals

@@ -1,10 +1,9 @@
 -- Laws of the definitions in this folder, for proofs and for callers: a number written is read again. Assumes nothing.
-use Rattle.std.specs.Prelude.{ℕ, zero, suc, ◌+◌, ◌*◌, ◌/◌, ◌%◌, ◌^◌, ◌≤◌, ◌<◌, ◌≡◌, refl, Bool, true, false, cond, ◌&&◌, List, [], ◌∷◌, ◌++◌, length, get_or, ℤ, pos, negsuc, nat_abs, leb, ltb, eqb}
+use Rattle.std.specs.Prelude.{ℕ, Some, zero, suc, ◌+◌, ◌*◌, ◌/◌, ◌%◌, ◌^◌, ◌≤◌, ◌<◌, ◌≡◌, refl, Bool, true, false, cond, ◌&&◌, List, [], ◌∷◌, ◌++◌, length, get_or, ℤ, pos, negsuc, nat_abs, leb, ltb, eqb}
 use Rattle.std.proofs.Common.{div-add-mod', div-lt_iff_lt-mul, mod-lt, lt_of_lt_of_le, pow-suc, arith, sym, ◌∙◌, length-append, ltb-true, ltb-false, eqb-true, lt-ltb, le-ltb, le-leb}
 use Rattle.std.proofs.Math.Nat.{pow-zero}
 use Rattle.std.proofs.Math.Bool.{and-true, and-false, and_assoc}
 use Rattle.std.specs.Int.Signed.{lt_z}
-use Rattle.text.specs.declared.Number.{Number}
 use Rattle.text.specs.Digits.{digit, digits, hex_word, decimal_in, decimal, signed}
 use Rattle.text.specs.Number.{digit_value, all_digits, value_after, digits_number, word_number}
 
@@ -101,7 +100,7 @@ decimal-value (suc k) n l =
 
 -- one or more digits of a base are a number
 number-of-digits : (base limit n : ℕ) (w : List ℕ) → 0 < length w → all_digits base w ≡ true → value_after base 0 w ≡ n → n ≤ limit
-    → digits_number base w limit ≡ Number.Value n
+    → digits_number base w limit ≡ Some n
 unfolding digits_number
 number-of-digits base limit n w some all e h = rw (lt-ltb 0 (length w) some, all, e, le-leb n limit h)
 
@@ -120,14 +119,14 @@ no-mark (a ∷ b ∷ w) e = go (eqb b 120) refl
     go false t = rw (and-false (eqb a 48), and-false)
 
 -- a word written in hexadecimal is read again
-pub number-of-word : (n limit : ℕ) → n < 2 ^ 32 → n ≤ limit → word_number (hex_word n) limit ≡ Number.Value n
+pub number-of-word : (n limit : ℕ) → n < 2 ^ 32 → n ≤ limit → word_number (hex_word n) limit ≡ Some n
 unfolding word_number
 number-of-word n limit h l =
     number-of-digits 16 limit n (digits 16 8 n) (omega arith) (all_digits-digits 16 8 n (omega arith) (omega arith))
     (value-of-digits 16 8 n (omega arith) (omega arith) h) l
 
 -- a number written in decimal is read again
-pub number-of-decimal : (n limit : ℕ) → n < 2 ^ 64 → n ≤ limit → word_number (decimal n) limit ≡ Number.Value n
+pub number-of-decimal : (n limit : ℕ) → n < 2 ^ 64 → n ≤ limit → word_number (decimal n) limit ≡ Some n
 unfolding word_number decimal
 number-of-decimal n limit h l =
     rw (no-mark (decimal_in 20 n) (decimal-digits 20 n))

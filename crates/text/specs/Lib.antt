@@ -1,5 +1,5 @@
 -- The definitions that `text`'s contracts cite, and the laws that its callers cite.
-pub mod Place
+pub mod Appended
 pub mod Digits
 pub mod Number
 pub mod Laws

@@ -1,17 +1,17 @@
 -- The bus image and one block's part of it, document 01, Bus image, and document 02, request 3. Assumes nothing.
-use Rattle.std.specs.Prelude.{ℕ, ◌+◌, ◌*◌, ◌-◌, Bool, cond, ◌&&◌, List, [], ◌++◌, length, take, drop, leb}
+use Rattle.std.specs.Prelude.{ℕ, ◌+◌, ◌*◌, ◌-◌, Bool, cond, ◌&&◌, List, [], ◌++◌, length, take, drop, leb, Result, Ok, Err}
 use Rattle.wire.specs.declared.Pair.{Pair}
 use Rattle.wire.specs.declared.Discrete.{Discrete}
-use Rattle.wire.specs.Refusal.{ground}
-use Rattle.wire.specs.declared.Answer.{Answer}
+use Rattle.wire.specs.declared.Refusal.{Refusal}
+use Rattle.wire.specs.Refusal.{granted, ground}
 use Rattle.wire.specs.Bytes.{five_bytes, two_bytes}
 
 -- F9, Q3.9a: an image needs a buffer of at least 19 bytes
 abbrev pub image_fits : List ℕ → Bool
 image_fits s = leb 19 (length s)
 
-unfoldable pub image_answer : List ℕ → Answer
-image_answer s = cond (image_fits s) Answer.Accepted (Answer.Refused (ground 7))
+unfoldable pub image_answer : List ℕ → Result Unit Refusal
+image_answer s = cond (image_fits s) granted (Err (ground 7))
 
 -- B1, Q3.9a: the pairs of AIN, TOT and AO from the buffer's first byte on, those of DI and DO behind them, and what lies behind these as it was;
 -- no byte changed where refused

@@ -2,7 +2,7 @@
 -- Assumes nothing.
 use Prim.Native.Nat.{ℕ, zero, suc, ◌+◌, ◌/◌, ◌%◌, ◌^◌, ◌<◌, ◌≤◌}
 use Rattle.std.proofs.Common.{arith, sym, ap, ◌∙◌, drop_of_length-le, length-append, length-take, drop-cons, drop-drop}
-use Rattle.std.specs.Prelude.{◌≡◌, Bool, ◌&&◌, get_or, take, eqb}
+use Rattle.std.specs.Prelude.{◌≡◌, Bool, ◌&&◌, get_or, take, eqb, Result, Ok, Err}
 use Rattle.std.proofs.Math.Path.{refl}
 use Rattle.std.proofs.Math.Bool.{true, false, cond}
 use mathlib.Core.List.{List, [], ◌∷◌, ◌++◌}
@@ -10,6 +10,7 @@ use Rattle.std.proofs.Math.ListN.{length, drop, length-drop}
 use Rattle.std.proofs.Math.Dec.{leb}
 use borrow.Author.Tests.{le-leb, lt-leb, leb-true, eqb-true, eqb-false, ne_eqb}
 use Rattle.wire.specs.declared.status.Quality.{Quality}
+use Rattle.wire.specs.Refusal.{granted}
 use Rattle.wire.specs.declared.status.Quality.TheVariants.{Bad, Uncertain, Good, GoodCascade}
 use Rattle.wire.specs.declared.status.Limits.{Limits}
 use Rattle.wire.specs.declared.status.Limits.TheVariants.{Unlimited, Low, High, Constant}
@@ -17,9 +18,6 @@ use Rattle.wire.specs.declared.status.Status.{Status}
 use Rattle.wire.specs.declared.Pair.{Pair}
 use Rattle.wire.specs.declared.Discrete.{Discrete}
 use Rattle.wire.specs.declared.Refusal.TheVariants.{WrongLength}
-use Rattle.wire.specs.declared.Answer.{Answer}
-use Rattle.wire.specs.declared.Received.{Received}
-use Rattle.wire.specs.declared.DiscreteReceived.{DiscreteReceived}
 use Rattle.wire.specs.Status.{quality_number, limits_number, quality_case, limits_case, case_of, split_of, built_of}
 use Rattle.wire.specs.Bytes.{five_bytes, two_bytes, word_of, pair_of, discrete_of, replaced, fits, placed_answer, placed, put_bytes, put_discrete_bytes}
 use Rattle.wire.specs.Image.{image_fits, image_bytes, part_length, part_from, part_of}
@@ -101,21 +99,21 @@ elements-of zero s at h = sym (drop_of_length-le s {i = at} (omega arith))
 elements-of (suc n) s at h = ap (get_or s at 0 ∷◌) (elements-of n s (suc at) (omega arith)) ∙ sym (drop-cons s at 0 (omega arith))
 
 -- a pair is read again from its five bytes
-pub pair-of-five : (p : Pair) → p.bits < 2 ^ 32 → pair_of (five_bytes p) ≡ Received.Value p
+pub pair-of-five : (p : Pair) → p.bits < 2 ^ 32 → pair_of (five_bytes p) ≡ Ok p
 unfolding pair_of
 pair-of-five p h =
     let w : word_of (p.bits / 2 ^ 24) (p.bits / 2 ^ 16 % 256) (p.bits / 2 ^ 8 % 256) (p.bits % 256) ≡ p.bits = omega arith in
     rw w
 
 -- five bytes are put together again from the pair that they stand for
-pub five-of-pair : (s : List ℕ) (p : Pair) → ((i : ℕ) → get_or s i 0 < 256) → pair_of s ≡ Received.Value p → five_bytes p ≡ s
+pub five-of-pair : (s : List ℕ) (p : Pair) → ((i : ℕ) → get_or s i 0 < 256) → pair_of s ≡ Ok p → five_bytes p ≡ s
 unfolding pair_of
 five-of-pair s p small = go (eqb (length s) 5) refl
   where
     q : Pair
     q = record { bits = word_of (get_or s 0 0) (get_or s 1 0) (get_or s 2 0) (get_or s 3 0); status = get_or s 4 0 }
 
-    go : (t : Bool) → eqb (length s) 5 ≡ t → cond t (Received.Value q) (Received.Refused WrongLength) ≡ Received.Value p → five_bytes p ≡ s
+    go : (t : Bool) → eqb (length s) 5 ≡ t → cond t (Ok q) (Err WrongLength) ≡ Ok p → five_bytes p ≡ s
     go true t e =
         let same : q ≡ p = cc in
         let a : q.bits / 2 ^ 24 ≡ get_or s 0 0 = omega (arith, small 0, small 1, small 2, small 3) in
@@ -126,19 +124,19 @@ five-of-pair s p small = go (eqb (length s) 5) refl
     go false t e = cc
 
 -- a discrete value is read again from its two bytes
-pub discrete-of-two : (d : Discrete) → discrete_of (two_bytes d) ≡ DiscreteReceived.Value d
+pub discrete-of-two : (d : Discrete) → discrete_of (two_bytes d) ≡ Ok d
 unfolding discrete_of
 discrete-of-two d = refl
 
 -- two bytes are put together again from the discrete value that they stand for
-pub two-of-discrete : (s : List ℕ) (d : Discrete) → discrete_of s ≡ DiscreteReceived.Value d → two_bytes d ≡ s
+pub two-of-discrete : (s : List ℕ) (d : Discrete) → discrete_of s ≡ Ok d → two_bytes d ≡ s
 unfolding discrete_of
 two-of-discrete s d = go (eqb (length s) 2) refl
   where
     q : Discrete
     q = record { value = get_or s 0 0; status = get_or s 1 0 }
 
-    go : (t : Bool) → eqb (length s) 2 ≡ t → cond t (DiscreteReceived.Value q) (DiscreteReceived.Refused WrongLength) ≡ DiscreteReceived.Value d
+    go : (t : Bool) → eqb (length s) 2 ≡ t → cond t (Ok q) (Err WrongLength) ≡ Ok d
         → two_bytes d ≡ s
     go true t e = let same : q ≡ d = cc in ap two_bytes (sym same) ∙ elements-of 2 s 0 (eqb-true (length s) 2 t)
     go false t e = cc
@@ -154,12 +152,12 @@ placed-length s at bs = go (fits (length bs) s at) refl
     go false t = refl
 
 pub placed-accepted : (s : List ℕ) (at : ℕ) (bs : List ℕ) → at + length bs ≤ length s
-    → (placed_answer (length bs) s at ≡ Answer.Accepted) × (placed s at bs ≡ replaced s at bs)
+    → (placed_answer (length bs) s at ≡ granted) × (placed s at bs ≡ replaced s at bs)
 unfolding placed_answer placed
 placed-accepted s at bs h = let t = le-leb (at + length bs) (length s) h in (rw t, rw t)
 
 pub placed-refused : (s : List ℕ) (at : ℕ) (bs : List ℕ) → length s < at + length bs
-    → (placed_answer (length bs) s at ≡ Answer.Refused WrongLength) × (placed s at bs ≡ s)
+    → (placed_answer (length bs) s at ≡ Err WrongLength) × (placed s at bs ≡ s)
 unfolding placed_answer placed
 placed-refused s at bs h = let t = lt-leb (at + length bs) (length s) h in (rw t, rw t)
 

@@ -1,10 +1,8 @@
 -- The numbers of refused calls, document 01, Refused calls, and document 02, request 1. Assumes nothing.
-use Rattle.std.specs.Prelude.{ℕ, ◌≡◌, refl, cond, eqb}
+use Rattle.std.specs.Prelude.{ℕ, ◌≡◌, refl, cond, eqb, Result, Ok, Err}
 use Rattle.wire.specs.declared.Refusal.{Refusal}
 use Rattle.wire.specs.declared.Refusal.TheVariants.{NoSuchBlock, NoSuchParameter, ReadOnly, Locked, WordsNotAllowed, NotMan}
 use Rattle.wire.specs.declared.Refusal.TheVariants.{WrongLength, NoSuchInput, NotWholePairs, NotRising}
-use Rattle.wire.specs.declared.Answer.{Answer}
-use Rattle.wire.specs.declared.Answer.TheVariants.{Accepted, Refused}
 
 abbrev pub refusal_number : Refusal → ℕ
 -- F3, Q3.10: there are blocks 0 to 5
@@ -54,7 +52,15 @@ ground-number NoSuchInput = refl
 ground-number NotWholePairs = refl
 ground-number NotRising = refl
 
+-- C1: what a call answers where it gives no value: accepted, or refused on a ground
+abbrev pub Answer : Type 0
+Answer = Result Unit Refusal
+
+-- the answer of an accepted call
+abbrev pub granted : Answer
+granted = Ok tt
+
 -- F1: a refusal is answered by its number; for an accepted call the paper leaves it free: 0
 abbrev pub answer_number : Answer → ℕ
-answer_number Accepted = 0
-answer_number (Refused r) = refusal_number r
+answer_number (Ok u) = 0
+answer_number (Err r) = refusal_number r

@@ -1,8 +1,8 @@
 // The status byte taken apart and put together.
 ghost use Rattle.std.specs.Prelude.{◌≡◌};
-ghost use Rattle.wire.specs.Status.{split_of, built_of, quality_case, limits_case, quality_number, limits_number};
+ghost use Rattle.wire.specs.Status.{case_of, split_of, built_of, quality_case, limits_case, quality_number, limits_number};
 
-#[derive(Clone, Copy)]
+#[derive(Clone, Copy, Debug, PartialEq, Eq)]
 pub enum Quality {
     Bad,
     Uncertain,
@@ -10,7 +10,7 @@ pub enum Quality {
     GoodCascade,
 }
 
-#[derive(Clone, Copy)]
+#[derive(Clone, Copy, Debug, PartialEq, Eq)]
 pub enum Limits {
     Unlimited,
     Low,
@@ -18,89 +18,88 @@ pub enum Limits {
     Constant,
 }
 
-#[derive(Clone, Copy)]
+#[derive(Clone, Copy, Debug, PartialEq, Eq)]
 pub struct Status {
     pub quality: Quality,
     pub sub_status: u8,
     pub limits: Limits,
 }
 
-fn quality_case(n: u8) -> Quality
-    ensures { result ≡ quality_case n }
+// The case of a number 0 to 3; a larger one counts as 3.
+fn case_of<T: Drop>(n: u8, zero: T, one: T, two: T, three: T) -> T
+    ensures { result ≡ case_of zero one two three n }
 {
-    let bad = n == 0;
-    if bad {
-        return Quality::Bad;
-    }
-    let uncertain = n == 1;
-    if uncertain {
-        return Quality::Uncertain;
-    }
-    let good = n == 2;
-    if good {
-        return Quality::Good;
-    }
-    Quality::GoodCascade
-}
-
-fn limits_case(n: u8) -> Limits
-    ensures { result ≡ limits_case n }
-{
-    let unlimited = n == 0;
-    if unlimited {
-        return Limits::Unlimited;
-    }
-    let low = n == 1;
-    if low {
-        return Limits::Low;
-    }
-    let high = n == 2;
-    if high {
-        return Limits::High;
-    }
-    Limits::Constant
-}
-
-fn quality_number(q: Quality) -> u8
-    ensures { result ≡ quality_number q }
-{
-    match q {
-        Quality::Bad => 0,
-        Quality::Uncertain => 1,
-        Quality::Good => 2,
-        Quality::GoodCascade => 3,
+    match n {
+        0 => zero,
+        1 => one,
+        2 => two,
+        _ => three,
     }
 }
 
-fn limits_number(l: Limits) -> u8
-    ensures { result ≡ limits_number l }
-{
-    match l {
-        Limits::Unlimited => 0,
-        Limits::Low => 1,
-        Limits::High => 2,
-        Limits::Constant => 3,
+impl From<u8> for Quality {
+    fn from(n: u8) -> Quality
+        ensures { result ≡ quality_case n }
+    {
+        case_of(
+            n,
+            Quality::Bad,
+            Quality::Uncertain,
+            Quality::Good,
+            Quality::GoodCascade,
+        )
+    }
+}
+
+impl From<Quality> for u8 {
+    fn from(quality: Quality) -> u8
+        ensures { result ≡ quality_number quality }
+    {
+        quality as u8
+    }
+}
+
+impl From<u8> for Limits {
+    fn from(n: u8) -> Limits
+        ensures { result ≡ limits_case n }
+    {
+        case_of(
+            n,
+            Limits::Unlimited,
+            Limits::Low,
+            Limits::High,
+            Limits::Constant,
+        )
+    }
+}
+
+impl From<Limits> for u8 {
+    fn from(limits: Limits) -> u8
+        ensures { result ≡ limits_number limits }
+    {
+        limits as u8
     }
 }
 
 // What a status byte says.
-pub fn split(status: u8) -> Status
-    ensures { result ≡ split_of status }
-{
-    let quality = quality_case(status / 64);
-    let limits = limits_case(status % 4);
-    Status {
-        quality,
-        sub_status: status / 4 % 16,
-        limits,
+impl From<u8> for Status {
+    #[tactic(auto, unfolding(crate::specs::Status::split_of))]
+    fn from(status: u8) -> Status
+        ensures { result ≡ split_of status }
+    {
+        Status {
+            quality: Quality::from(status / 64),
+            sub_status: status / 4 % 16,
+            limits: Limits::from(status % 4),
+        }
     }
 }
 
 // The status byte that says it.
-pub fn built(s: Status) -> u8
-    ensures { result ≡ built_of s }
-{
-    let q = s.quality;
-    let l = s.limits;
-    64 * quality_number(q) + 4 * (s.sub_status % 16) + limits_number(l)
+impl From<Status> for u8 {
+    fn from(s: Status) -> u8
+        ensures { result ≡ built_of s }
+    {
+        64 * u8::from(s.quality) + 4 * (s.sub_status % 16) + u8::from(s.limits)
+    }
 }

@@ -5,7 +5,7 @@ use Rattle.ain.proofs.measured.Goals as goal
 
 pub returns-then-by_table : goal.returns-then-by_table
 unfolding measured
-returns-then-by_table c = rw (c.linearised.ensures, c.if-by_table.true-raw)
+returns-then-by_table c = rw (c.value_at.ensures, c.if-by_table.true-raw)
 
 pub returns : goal.returns
 unfolding measured

@@ -1,4 +1,4 @@
--- `dout::telegram` meets its contract: the input is tested first, and `discrete_of` tests the length.
+-- `dout::telegram` meets its contract: the input is tested first, and the pair's conversion tests the length.
 -- Assumes nothing.
 use Rattle.blocks.specs.Output.{telegram_by}
 use Rattle.dout.specs.Telegram.{telegram_of}
@@ -8,10 +8,10 @@ pub returns-then-unknown : goal.returns-then-unknown
 unfolding telegram_of telegram_by
 returns-then-unknown c = rw c.if-unknown.true-raw
 
-pub returns-in-Value : goal.returns-in-Value
+pub returns-in-Ok : goal.returns-in-Ok
 unfolding telegram_of telegram_by
-returns-in-Value c = rw (c.taken_on-state.ensures, c.if-unknown.false-raw, ← c.discrete_of-received.ensures, c.in-Value.is)
+returns-in-Ok c = rw (c.taken_on.ensures, c.if-unknown.false-raw, ← c.try_from.ensures, c.in-Ok.is)
 
-pub returns-in-Refused : goal.returns-in-Refused
+pub returns-in-Err : goal.returns-in-Err
 unfolding telegram_of telegram_by
-returns-in-Refused c = rw (c.if-unknown.false-raw, ← c.discrete_of-received.ensures, c.in-Refused.is)
+returns-in-Err c = rw (c.if-unknown.false-raw, ← c.try_from.ensures, c.in-Err.is)

@@ -1,4 +1,4 @@
--- `history::order_after` meets its contract: it is the order of a tick of the device that `replay` hands back.
+-- `history::order_after` meets its contract: it is the order of a tick of the device that a list leads to.
 -- Assumes nothing.
 use Rattle.history.proofs.After.{drive-is}
 use Rattle.history.proofs.order_after.Goals as goal
@@ -6,4 +6,4 @@ use Rattle.history.proofs.order_after.Goals as goal
 pub returns : goal.returns
 returns c =
     let s = c.args.calls.now in
-    rw c.tick-ticked.ensures (drive-is s (λ i. (c.shared_slice_known-1.given i).fits) _ c.replay-replayed.ensures _ _ _ _)
+    rw c.tick.ensures.ao (drive-is s (λ i. (c.type_inv.calls i).fits) _ c.device_after-device.ensures _ _ _ _)

@@ -1,4 +1,4 @@
--- `history::telegram_after` meets its contract: it is the answer of the device that `replay` hands back.
+-- `history::telegram_after` meets its contract: it is the answer of the device that a list leads to.
 -- Assumes nothing.
 use Rattle.history.proofs.After.{telegram-is}
 use Rattle.history.proofs.telegram_after.Goals as goal
@@ -6,4 +6,4 @@ use Rattle.history.proofs.telegram_after.Goals as goal
 pub returns : goal.returns
 returns c =
     let s = c.args.calls.now in
-    rw c.telegram-taken.ensures (telegram-is s (λ i. (c.shared_slice_known-1.given i).fits) _ c.replay-replayed.ensures _ _)
+    rw c.telegram.ensures.answer (telegram-is s (λ i. (c.type_inv.calls i).fits) _ c.device_after-device.ensures _ _)

@@ -1,37 +1,50 @@
--- `packing::pack` meets its contract: seven rows of words one after the other are the packed form, `pack-steps`, and each block is read again from its words, `unpack-pack`.
-use Prim.Native.Nat.{◌≤◌}
-use native.Mathlib.Omega.{arith}
+-- `packing::pack` meets its contract: the words of the device one after the other, and each is read again from its bytes.
+use Rattle.std.proofs.Common.{◌≡◌, ◌<◌, ◌^◌, ◌∙◌, ℕ, List, [], ◌++◌, get_or, length, append-nil, arith, rules, Ok}
 use borrow.Author.Tests.{le-leb, lt-leb}
-use lib.ListN.{length}
-use Rattle.packing.specs.Packed.{pack_answer, pack_bytes}
-use Rattle.packing.specs.Laws.{pack-steps, unpack-pack}
+use Rattle.device.specs.declared.Device.{Device}
+use Rattle.packing.specs.Words.{device_words, fields_of, words_of}
+use Rattle.packing.specs.Packed.{packed_of, pack_answer, pack_bytes, unpacked_of}
+use Rattle.packing.specs.Laws.{small-each, unpack-pack, words-length}
 use Rattle.packing.proofs.pack.Goals as goal
 
-pub returns-then-room-lt-PACKED : goal.returns-then-room-lt-PACKED
-unfolding pack_answer pack_bytes
-returns-then-room-lt-PACKED c =
-    let a = c.args in
-    let h = lt-leb 564 (length a.buf.now) (omega arith) in
-    record { value = rw h; buf_after = rw h; d_value = unpack-pack c.args.d c.first_words-first.ensures.small c.ain_words-ain.ensures.small c.table_words-table.ensures.small c.tot_words-tot.ensures.small c.ao_words-ao.ensures.small c.di_words-di.ensures.small c.dout_words-dout.ensures.small }
+-- words that fit and are read again as the device
+again : (d : Device) (ws : List ℕ) → ws ≡ words_of d → ((i : ℕ) → get_or ws i 0 < 2 ^ 32)
+    → ((rest : List ℕ) → (fields_of (device_words d ++ rest)).value ≡ d) → unpacked_of (packed_of d) ≡ Ok d
+unfolding words_of
+again d ws e fit back = unpack-pack d (rw e at (small-each ws fit)) (rw append-nil at (back []))
 
-pub put_words-requires-5 : goal.put_words-requires-5
-put_words-requires-5 c = omega (arith, c.if-room-lt-PACKED.false, c.buf-4-1.given, c.buf-3-1.given, c.buf-2-1.given, c.buf-1.given, c.ao_words-ao.type_inv)
-
-pub slice_bounds-put_words-end-6 : goal.slice_bounds-put_words-end-6
-slice_bounds-put_words-end-6 c = omega (arith, c.di_words-di.type_inv)
-
-pub put_words-requires-6 : goal.put_words-requires-6
-put_words-requires-6 c = omega (arith, c.if-room-lt-PACKED.false, c.buf-5-1.given, c.buf-4-1.given, c.buf-3-1.given, c.buf-2-1.given, c.buf-1.given, c.di_words-di.type_inv)
-
-pub slice_bounds-put_words-end-7 : goal.slice_bounds-put_words-end-7
-slice_bounds-put_words-end-7 c = omega (arith, c.dout_words-dout.type_inv)
-
-pub put_words-requires-7 : goal.put_words-requires-7
-put_words-requires-7 c = omega (arith, c.if-room-lt-PACKED.false, c.buf-6-1.given, c.buf-5-1.given, c.buf-4-1.given, c.buf-3-1.given, c.buf-2-1.given, c.buf-1.given, c.dout_words-dout.type_inv)
-
-pub returns : goal.returns
+pub returns-then-buf-lt-PACKED-clause-value : goal.returns-then-buf-lt-PACKED-clause-value
 unfolding pack_answer
-returns c =
-    let a = c.args in
-    let s = a.buf.now in
-    let h : 564 ≤ length s = omega (arith, c.if-room-lt-PACKED.false) in record { value = rw (le-leb 564 (length s) h); buf_after = pack-steps s a.d h c.first_words-first.ensures.value c.ain_words-ain.ensures.value c.table_words-table.ensures.value c.tot_words-tot.ensures.value c.ao_words-ao.ensures.value c.di_words-di.ensures.value c.dout_words-dout.ensures.value c.put_words.ensures c.put_words-2.ensures c.put_words-3.ensures c.put_words-4.ensures c.put_words-5.ensures c.put_words-6.ensures c.put_words-7.ensures; d_value = unpack-pack c.args.d c.first_words-first.ensures.small c.ain_words-ain.ensures.small c.table_words-table.ensures.small c.tot_words-tot.ensures.small c.ao_words-ao.ensures.small c.di_words-di.ensures.small c.dout_words-dout.ensures.small }
+returns-then-buf-lt-PACKED-clause-value c = rw (lt-leb 564 (length c.args.buf.now) (omega arith))
+
+pub returns-then-buf-lt-PACKED-clause-buf_after : goal.returns-then-buf-lt-PACKED-clause-buf_after
+unfolding pack_bytes
+returns-then-buf-lt-PACKED-clause-buf_after c = rw (lt-leb 564 (length c.args.buf.now) (omega arith))
+
+pub returns-then-buf-lt-PACKED-clause-d_value : goal.returns-then-buf-lt-PACKED-clause-d_value
+unfolding words_of
+returns-then-buf-lt-PACKED-clause-d_value c =
+    let e : c.words-words.result.now ≡ words_of c.args.d = c.words-words.ensures ∙ rw (c.put.ensures.to_after, c.push.ensures.self_after, c.new-to.ensures) in
+    again c.args.d c.words-words.result.now e (search rules) c.put.ensures.back
+
+pub put_words-requires : goal.put_words-requires
+unfolding words_of
+put_words-requires c =
+    let e : c.words-words.result.now ≡ words_of c.args.d = c.words-words.ensures ∙ rw (c.put.ensures.to_after, c.push.ensures.self_after, c.new-to.ensures) in
+    rw (e, words-length c.args.d) (omega arith)
+
+pub returns-clause-value : goal.returns-clause-value
+unfolding pack_answer
+returns-clause-value c = rw (le-leb 564 (length c.args.buf.now) (omega arith))
+
+pub returns-clause-buf_after : goal.returns-clause-buf_after
+unfolding pack_bytes packed_of words_of
+returns-clause-buf_after c =
+    let e : c.words-words.result.now ≡ words_of c.args.d = c.words-words.ensures ∙ rw (c.put.ensures.to_after, c.push.ensures.self_after, c.new-to.ensures) in
+    c.put_words.ensures ∙ rw (e, words-length c.args.d, le-leb 564 (length c.args.buf.now) (omega arith))
+
+pub returns-clause-d_value : goal.returns-clause-d_value
+unfolding words_of
+returns-clause-d_value c =
+    let e : c.words-words.result.now ≡ words_of c.args.d = c.words-words.ensures ∙ rw (c.put.ensures.to_after, c.push.ensures.self_after, c.new-to.ensures) in
+    again c.args.d c.words-words.result.now e (search rules) c.put.ensures.back

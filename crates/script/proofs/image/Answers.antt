@@ -1,12 +1,10 @@
--- `script::image` meets its contract: `numbers` tells whether the words fit and gives their values, which are within their limits.
-use Rattle.script.proofs.Told.{told}
 use Rattle.script.specs.Command.{image_call}
 use Rattle.script.proofs.image.Goals as goal
 
-pub returns-then-good : goal.returns-then-good
+pub returns-in_err-length : goal.returns-in_err-length
 unfolding image_call
-returns-then-good c = rw (told c.numbers-good.ensures.value c.if-good.true, c.numbers-good.ensures.out_after)
+returns-in_err-length c = rw (c.from_residual.ensures, c.in_err-length.ensures)
 
 pub returns : goal.returns
 unfolding image_call
-returns c = rw (told c.numbers-good.ensures.value c.if-good.false)
+returns c = let n = c.in_ok-length.ensures in rw (n.0, n.1)

@@ -1,11 +1,10 @@
--- `script::load` meets its contract: its test is the definition's.
 use Rattle.script.specs.Command.{load_call}
 use Rattle.script.proofs.load.Goals as goal
 
-pub returns-then-good : goal.returns-then-good
+pub returns-in_err-length : goal.returns-in_err-length
 unfolding load_call
-returns-then-good c = rw (← c.count-n.ensures, ← c.are_bytes.ensures, c.if-good.true)
+returns-in_err-length c = rw (c.from_residual.ensures, c.in_err-length.ensures)
 
 pub returns : goal.returns
 unfolding load_call
-returns c = rw (← c.count-n.ensures, ← c.are_bytes.ensures, c.if-good.false)
+returns c = let n = c.in_ok-length.ensures in rw (n.0, n.1)

@@ -1,4 +1,4 @@
--- `script::name_of` meets its contract: each return follows the comparisons that the definition makes, in its order.
+-- Each return follows the comparisons that the definition makes, in its order.
 use Rattle.script.proofs.Told.{told}
 use Rattle.script.specs.Command.{name_of}
 use Rattle.script.proofs.name_of.Goals as goal

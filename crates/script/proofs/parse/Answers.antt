@@ -1,27 +1,36 @@
--- `script::parse` meets its contract: its tests are the definition's, and the first word's place gives its name and where its arguments stand.
-use Rattle.script.proofs.Told.{told}
-use borrow.Author.Tests.{eq-eqb, ne_eqb}
+use Rattle.std.proofs.Common.{◌≡◌, ◌<◌, ℕ, List, [], ◌∷◌, length, lt-ltb, le-ltb, eq-eqb, ne_eqb, arith}
+use Rattle.script.specs.Words.{words_of, words_after}
 use Rattle.script.specs.Command.{command_of}
 use Rattle.script.proofs.parse.Goals as goal
 
-pub returns-then-long : goal.returns-then-long
-unfolding command_of
-returns-then-long c = rw c.if-long.true-raw
+-- a line with a word has a byte
+has_byte : (s w : List ℕ) (ws : List (List ℕ)) → words_of s ≡ w ∷ ws → 0 < length s
+unfolding words_of words_after
+has_byte [] w ws e = absurd (let x : [] ≡ w ∷ ws = e in cc)
+has_byte (c ∷ s) w ws e = omega arith
 
-pub returns-then-from-to : goal.returns-then-from-to
+pub returns-then-line-gt4096 : goal.returns-then-line-gt4096
 unfolding command_of
-returns-then-from-to c =
-    let w = c.next_word-w.ensures in
-    rw (c.if-long.false-raw, told w.none (eq-eqb _ _ c.if-from-to.true))
+returns-then-line-gt4096 c = rw (lt-ltb 4096 (length c.args.line.now) c.if-line-gt4096.true)
 
-pub returns-then-remark : goal.returns-then-remark
+pub returns-in_default : goal.returns-in_default
 unfolding command_of
-returns-then-remark c =
-    let w = c.next_word-w.ensures in
-    rw (c.if-long.false-raw, told w.none (ne_eqb _ _ c.if-from-to.false), c.if-remark.true-raw)
+returns-in_default c = rw (le-ltb 4096 (length c.args.line.now) c.if-line-gt4096.false, c.in_default.ensures.steps.0)
 
-pub returns : goal.returns
+pub bounds-line-0 : goal.bounds-line-0
+bounds-line-0 c = let h = has_byte c.args.line.now c.in-Some.word.now _ c.in-Some.ensures.steps in omega arith
+
+pub returns-then-line-eq35 : goal.returns-then-line-eq35
 unfolding command_of
-returns c =
-    let w = c.next_word-w.ensures in
-    rw (c.if-long.false-raw, told w.none (ne_eqb _ _ c.if-from-to.false), c.if-remark.false-raw, c.call.ensures, c.name_of-name.ensures, w.first, w.rest)
+returns-then-line-eq35 c =
+    rw (le-ltb 4096 (length c.args.line.now) c.if-line-gt4096.false, c.in-Some.ensures.steps, eq-eqb _ _ c.if-line-eq35.true)
+
+pub returns-in-Some-named : goal.returns-in-Some-named
+unfolding command_of
+returns-in-Some-named c =
+    rw (le-ltb 4096 (length c.args.line.now) c.if-line-gt4096.false, c.in-Some.ensures.steps, ne_eqb _ _ c.if-line-eq35.false) (rw (← c.in-Some-named.ensures))
+
+pub returns-in-None : goal.returns-in-None
+unfolding command_of
+returns-in-None c =
+    rw (le-ltb 4096 (length c.args.line.now) c.if-line-gt4096.false, c.in-Some.ensures.steps, ne_eqb _ _ c.if-line-eq35.false) (rw (← c.in-None.ensures))

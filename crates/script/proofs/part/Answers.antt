@@ -1,21 +1,16 @@
--- `script::part` meets its contract: `numbers` tells whether the words fit and gives their values, which are within their limits.
-use Rattle.script.proofs.Told.{told, within}
+use Rattle.std.proofs.Common.{[], ◌∷◌, arith}
+use Rattle.script.specs.Words.{words_of}
 use Rattle.script.specs.Command.{part_call}
-use Prim.Native.Nat.{ℕ}
-use native.Mathlib.Omega.{arith}
-use mathlib.Core.List.{List, [], ◌∷◌}
+use Rattle.script.proofs.Lines.{within}
 use Rattle.script.proofs.part.Goals as goal
 
-abbrev limits : List ℕ
-limits = 255 ∷ 64 ∷ []
-
-pub overflow_cast-result : goal.overflow_cast-result
-overflow_cast-result c = omega (arith, within limits _ c.numbers-good.new.out c.numbers-good.result c.numbers-good.ensures.out_after c.numbers-good.ensures.value c.if-good.true 0 (omega arith))
-
-pub returns-then-good : goal.returns-then-good
+pub returns-in_err-block : goal.returns-in_err-block
 unfolding part_call
-returns-then-good c = rw (told c.numbers-good.ensures.value c.if-good.true, c.numbers-good.ensures.out_after)
+returns-in_err-block c = rw (c.from_residual.ensures, c.in_err-block.ensures)
 
 pub returns : goal.returns
 unfolding part_call
-returns c = rw (told c.numbers-good.ensures.value c.if-good.false)
+returns c = let n = c.in_ok-block.ensures in rw (n.0, n.1)
+
+pub overflow_cast-result : goal.overflow_cast-result
+overflow_cast-result c = let n = c.in_ok-block.ensures in omega (arith, within (255 ∷ 64 ∷ []) (words_of c.args.words.rest.now) c.in_ok-block.field-0 n.0 n.1 0 (omega arith))

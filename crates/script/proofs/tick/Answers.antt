@@ -1,31 +1,25 @@
--- `script::tick` meets its contract: `numbers` tells whether the words fit and gives their values, which are within their limits.
-use Rattle.script.proofs.Told.{told, within}
-use Rattle.script.specs.Command.{tick_limits, tick_call}
-use native.Mathlib.Omega.{arith}
+use Rattle.std.proofs.Common.{[], ◌∷◌, arith}
+use Rattle.script.specs.Words.{words_of}
+use Rattle.script.specs.Command.{tick_call}
+use Rattle.script.proofs.Lines.{within}
 use Rattle.script.proofs.tick.Goals as goal
 
-pub overflow_cast-result : goal.overflow_cast-result
-overflow_cast-result c = omega (arith, within tick_limits _ c.numbers-good.new.out c.numbers-good.result c.numbers-good.ensures.out_after c.numbers-good.ensures.value c.if-good.true 1 (omega arith))
-
-pub overflow_cast-result-then-good : goal.overflow_cast-result-then-good
-overflow_cast-result-then-good c = omega (arith, within tick_limits _ c.numbers-good.new.out c.numbers-good.result c.numbers-good.ensures.out_after c.numbers-good.ensures.value c.if-good.true 2 (omega arith))
-
-pub overflow_cast-result-then-good-2 : goal.overflow_cast-result-then-good-2
-overflow_cast-result-then-good-2 c = omega (arith, within tick_limits _ c.numbers-good.new.out c.numbers-good.result c.numbers-good.ensures.out_after c.numbers-good.ensures.value c.if-good.true 3 (omega arith))
-
-pub overflow_cast-result-then-good-3 : goal.overflow_cast-result-then-good-3
-overflow_cast-result-then-good-3 c = omega (arith, within tick_limits _ c.numbers-good.new.out c.numbers-good.result c.numbers-good.ensures.out_after c.numbers-good.ensures.value c.if-good.true 4 (omega arith))
-
-pub overflow_cast-result-then-good-4 : goal.overflow_cast-result-then-good-4
-overflow_cast-result-then-good-4 c = omega (arith, within tick_limits _ c.numbers-good.new.out c.numbers-good.result c.numbers-good.ensures.out_after c.numbers-good.ensures.value c.if-good.true 5 (omega arith))
-
-pub overflow_cast-result-then-good-5 : goal.overflow_cast-result-then-good-5
-overflow_cast-result-then-good-5 c = omega (arith, within tick_limits _ c.numbers-good.new.out c.numbers-good.result c.numbers-good.ensures.out_after c.numbers-good.ensures.value c.if-good.true 6 (omega arith))
-
-pub returns-then-good : goal.returns-then-good
+pub returns-in_err-fault : goal.returns-in_err-fault
 unfolding tick_call
-returns-then-good c = rw (told c.numbers-good.ensures.value c.if-good.true, c.numbers-good.ensures.out_after)
+returns-in_err-fault c = rw (c.from_residual.ensures, c.in_err-fault.ensures)
 
 pub returns : goal.returns
 unfolding tick_call
-returns c = rw (told c.numbers-good.ensures.value c.if-good.false)
+returns c = let n = c.in_ok-fault.ensures in rw (n.0, n.1)
+
+pub overflow_cast-result : goal.overflow_cast-result
+overflow_cast-result c = let n = c.in_ok-fault.ensures in omega (arith, within (1 ∷ 4294967295 ∷ 255 ∷ 4294967295 ∷ 255 ∷ 255 ∷ 255 ∷ []) (words_of c.args.words.rest.now) c.in_ok-fault.field-0 n.0 n.1 2 (omega arith))
+
+pub overflow_cast-result-2 : goal.overflow_cast-result-2
+overflow_cast-result-2 c = let n = c.in_ok-fault.ensures in omega (arith, within (1 ∷ 4294967295 ∷ 255 ∷ 4294967295 ∷ 255 ∷ 255 ∷ 255 ∷ []) (words_of c.args.words.rest.now) c.in_ok-fault.field-0 n.0 n.1 4 (omega arith))
+
+pub overflow_cast-result-3 : goal.overflow_cast-result-3
+overflow_cast-result-3 c = let n = c.in_ok-fault.ensures in omega (arith, within (1 ∷ 4294967295 ∷ 255 ∷ 4294967295 ∷ 255 ∷ 255 ∷ 255 ∷ []) (words_of c.args.words.rest.now) c.in_ok-fault.field-0 n.0 n.1 5 (omega arith))
+
+pub overflow_cast-result-4 : goal.overflow_cast-result-4
+overflow_cast-result-4 c = let n = c.in_ok-fault.ensures in omega (arith, within (1 ∷ 4294967295 ∷ 255 ∷ 4294967295 ∷ 255 ∷ 255 ∷ 255 ∷ []) (words_of c.args.words.rest.now) c.in_ok-fault.field-0 n.0 n.1 6 (omega arith))

@@ -1,18 +1,26 @@
--- `text::digits_number` meets its contract, with this loop invariant: the value of the digits to come after `sum` is that of all, and they are digits if all are; the measure is the rest of them. Where the sum would pass the limit, the value does, since it only grows.
-use Prim.Native.Nat.{ℕ, ◌+◌, ◌-◌, ◌*◌, ◌≤◌, ◌<◌}
-use mathlib.Core.Path.{◌≡◌, refl, sym, ◌∙◌}
-use mathlib.Core.Bool.{◌&&◌, and-false}
-use mathlib.Core.List.{List, [], ◌∷◌}
-use native.Mathlib.Omega.{arith}
-use native.Mathlib.Nat.{le_refl, le_trans, le-mul_of_pos_right, le-div_iff_mul-le, div-lt_iff_lt-mul}
-use native.Mathlib.Numerals.{add-one}
-use lib.ListN.{length, get_or, drop, drop_of_length-le}
-use lib.Seq.{drop-cons}
-use lib.Dec.{ltb}
-use borrow.Author.Tests.{lt-ltb, le-ltb, le-leb, lt-leb}
-use Rattle.text.specs.declared.Number.{Number}
+-- Where the sum would not fit, the value is over any limit, since it only grows.
+use Rattle.std.proofs.Common.{ℕ, ◌+◌, ◌*◌, ◌≤◌, ◌<◌, ◌≡◌, refl, sym, ◌∙◌, ◌&&◌, List, [], ◌∷◌, length, get_or, drop, None, Some, Bool, true, false, cond, le_refl, le_trans, add-one, drop-cons, drop_of_length-le, lt-ltb, le-ltb, arith}
+use Rattle.std.proofs.Math.Dec.{ltb, leb}
+use Rattle.std.specs.Bool.{then_some}
+use Rattle.std.proofs.Math.Bool.{and-false}
+use native.Mathlib.Nat.{le-mul_of_pos_right}
+use borrow.Author.Tests.{lt-leb}
+use Rattle.std.proofs.lemmas.Bool.Decides.{nat_tests}
+use Rattle.std.specs.Char.{digit_value as char_value}
 use Rattle.text.specs.Number.{digit_value, all_digits, value_after, digits_number}
 use Rattle.text.proofs.digits_number.Goals as goal
+
+-- the library's digits are the call script's
+digit : (base c : ℕ) → base ≤ 16 → char_value c < base → digit_value c ≡ char_value c
+unfolding digit_value
+digit base c h d = grind (arith, nat_tests)
+
+digit_at : (base x d i : ℕ) (w : List ℕ) → base ≤ 16 → x ≡ get_or w i 0 → char_value x < base → d ≡ char_value x → (digit_value (get_or w i 0) ≡ d) × (d < base)
+digit_at base x d i w h e l k = (rw (← e) (digit base x h l ∙ sym k), omega (arith, k, l))
+
+no_digit_value : (base c : ℕ) → base ≤ 16 → (char_value c < base → ⊥) → base ≤ digit_value c
+unfolding digit_value
+no_digit_value base c h d = grind (arith, nat_tests)
 
 -- a value only grows with the digits that follow
 grows : (base n : ℕ) (ds : List ℕ) → 0 < base → n ≤ value_after base n ds
@@ -33,13 +41,13 @@ one_more : (base i : ℕ) (w : List ℕ) → i < length w → digit_value (get_o
 one_more base i w h d e = sym (rw (lt-ltb (digit_value (get_or w i 0)) base d) at (next-digits base i w h)) ∙ e
 
 -- a byte that is no digit of the base
-no_digit : (base limit i : ℕ) (w : List ℕ) → i < length w → base ≤ digit_value (get_or w i 0) → all_digits base (drop i w) ≡ all_digits base w → Number.Not ≡ digits_number base w limit
+no_digit : (base limit i : ℕ) (w : List ℕ) → i < length w → base ≤ digit_value (get_or w i 0) → all_digits base (drop i w) ≡ all_digits base w → None ≡ digits_number base w limit
 unfolding digits_number
 no_digit base limit i w h d e =
     rw (← e, next-digits base i w h, le-ltb (digit_value (get_or w i 0)) base d, lt-ltb 0 (length w) (omega arith))
 
 -- a value over the limit
-too_large : (base n limit i : ℕ) (w : List ℕ) → 0 < base → i < length w → limit < n * base + digit_value (get_or w i 0) → value_after base n (drop i w) ≡ value_after base 0 w → Number.Not ≡ digits_number base w limit
+too_large : (base n limit i : ℕ) (w : List ℕ) → 0 < base → i < length w → limit < n * base + digit_value (get_or w i 0) → value_after base n (drop i w) ≡ value_after base 0 w → None ≡ digits_number base w limit
 unfolding digits_number
 too_large base n limit i w p h over e =
     let g = grows base (n * base + digit_value (get_or w i 0)) (drop (i + 1) w) p in
@@ -47,92 +55,61 @@ too_large base n limit i w p h over e =
     rw (lt-leb (value_after base 0 w) limit (omega arith), and-false)
 
 -- all digits passed
-whole : (base n limit i : ℕ) (w : List ℕ) → 0 < length w → length w ≤ i → n ≤ limit → value_after base n (drop i w) ≡ value_after base 0 w → all_digits base (drop i w) ≡ all_digits base w → Number.Value n ≡ digits_number base w limit
+whole : (base n limit i : ℕ) (w : List ℕ) → 0 < length w → length w ≤ i → value_after base n (drop i w) ≡ value_after base 0 w → all_digits base (drop i w) ≡ all_digits base w → then_some (leb n limit) n ≡ digits_number base w limit
 unfolding digits_number
-whole base n limit i w some all le e f =
-    rw (← e, ← f, drop_of_length-le w {i = i} all, lt-ltb 0 (length w) some, le-leb n limit le)
+whole base n limit i w some all e f =
+    rw (← e, ← f, drop_of_length-le w {i = i} all, lt-ltb 0 (length w) some) (by_test (leb n limit) n)
+  where
+    by_test : (t : Bool) (n : ℕ) → then_some t n ≡ cond t (Some n) None
+    by_test true n = refl
+    by_test false n = refl
 
-pub returns-then-digits-eq0 : goal.returns-then-digits-eq0
+pub returns-then-is_empty : goal.returns-then-is_empty
 unfolding digits_number
-returns-then-digits-eq0 c = rw (le-ltb 0 (length c.args.digits.now) (omega arith))
+returns-then-is_empty c =
+    let h : length c.args.digits.now ≤ 0 = grind (arith, nat_tests) in
+    rw (le-ltb 0 (length c.args.digits.now) h)
 
-pub loop-i-init : goal.loop-i-init
-loop-i-init c = (omega arith, omega arith, refl, refl)
+pub returns-in_err-digit : goal.returns-in_err-digit
+returns-in_err-digit c =
+    let l = c.loop-byte in
+    let d = no_digit_value c.args.base c.from.result c.requires.at_most c.in_err-digit.ensures.value in
+    c.from_residual.ensures ∙ no_digit c.args.base c.args.limit l.byte-index c.args.digits.now (omega arith) (rw c.from.ensures at d) l.invariant.digits
 
-pub bounds-digits-i : goal.bounds-digits-i
-bounds-digits-i c = omega arith
+pub returns-in_err-checked_mul : goal.returns-in_err-checked_mul
+returns-in_err-checked_mul c =
+    let l = c.loop-byte in
+    let m : c.args.limit < l.sum * c.args.base = omega (arith, rw c.into.ensures at c.in_err-checked_mul.ensures) in
+    c.from_residual-in_err-checked_mul.ensures
+    ∙ too_large c.args.base l.sum c.args.limit l.byte-index c.args.digits.now (omega arith) (omega arith) (omega arith) l.invariant.value
 
-pub value-d-requires : goal.value-d-requires
-value-d-requires c = tt
+pub returns-in_err-sum : goal.returns-in_err-sum
+returns-in_err-sum c =
+    let l = c.loop-byte in
+    let k = c.in_ok-digit.ensures.value in
+    let d = digit_at c.args.base c.from.result c.in_ok-digit.digit l.byte-index c.args.digits.now c.requires.at_most c.from.ensures k.0 k.1 in
+    let p : c.in_ok-checked_mul.field-0 ≡ l.sum * c.args.base = c.in_ok-checked_mul.ensures.1 ∙ rw c.into.ensures in
+    let over : c.args.limit < l.sum * c.args.base + digit_value (get_or c.args.digits.now l.byte-index 0) =
+    omega (arith, c.in_err-sum.ensures, p, c.into-in-loop-byte.ensures, d.0) in
+    c.from_residual-in_err-sum.ensures
+    ∙ too_large c.args.base l.sum c.args.limit l.byte-index c.args.digits.now (omega arith) (omega arith) over l.invariant.value
 
-pub returns-then-d-base : goal.returns-then-d-base
-returns-then-d-base c =
-    let a = c.args in
-    let l = c.loop-i in
-    let v = c.value-d.ensures in
-    let b : 0 < a.base = omega (arith, c.requires) in
-    let h : l.i < length a.digits.now = omega arith in
-    no_digit a.base a.limit l.i a.digits.now h (omega arith) l.invariant.3
-
-pub returns-then-d-limit : goal.returns-then-d-limit
-returns-then-d-limit c =
-    let a = c.args in
-    let l = c.loop-i in
-    let v = c.value-d.ensures in
-    let b : 0 < a.base = omega (arith, c.requires) in
-    let h : l.i < length a.digits.now = omega arith in
-    too_large a.base l.sum a.limit l.i a.digits.now b h (omega arith) l.invariant.2
-
-pub nonzero_div-limit : goal.nonzero_div-limit
-nonzero_div-limit c = omega arith
-
-pub returns-then-sum-limit : goal.returns-then-sum-limit
-returns-then-sum-limit c =
-    let a = c.args in
-    let l = c.loop-i in
-    let v = c.value-d.ensures in
-    let b : 0 < a.base = omega (arith, c.requires) in
-    let h : l.i < length a.digits.now = omega arith in
-    let m = (div-lt_iff_lt-mul {k = a.base} {x = a.limit - c.value-d.result} {y = l.sum} b).0 (omega arith) in
-    too_large a.base l.sum a.limit l.i a.digits.now b h (omega arith) l.invariant.2
-
-pub overflow_mul-sum : goal.overflow_mul-sum
-overflow_mul-sum c =
-    let a = c.args in
-    let l = c.loop-i in
-    let v = c.value-d.ensures in
-    let b : 0 < a.base = omega (arith, c.requires) in
-    let h : l.i < length a.digits.now = omega arith in
-    let m = (le-div_iff_mul-le {k = a.base} {x = l.sum} {y = a.limit - c.value-d.result} b).0 (omega arith) in
-    omega arith
-
-pub overflow_add-sum : goal.overflow_add-sum
-overflow_add-sum c =
-    let a = c.args in
-    let l = c.loop-i in
-    let v = c.value-d.ensures in
-    let b : 0 < a.base = omega (arith, c.requires) in
-    let h : l.i < length a.digits.now = omega arith in
-    let m = (le-div_iff_mul-le {k = a.base} {x = l.sum} {y = a.limit - c.value-d.result} b).0 (omega arith) in
-    omega arith
-
-pub overflow_add-i : goal.overflow_add-i
-overflow_add-i c = omega arith
-
-pub loop-i-smaller : goal.loop-i-smaller
-loop-i-smaller c = omega arith
-
-pub loop-i-preserved : goal.loop-i-preserved
-loop-i-preserved c =
-    let a = c.args in
-    let l = c.loop-i in
-    let v = c.value-d.ensures in
-    let b : 0 < a.base = omega (arith, c.requires) in
-    let h : l.i < length a.digits.now = omega arith in
-    let m = (le-div_iff_mul-le {k = a.base} {x = l.sum} {y = a.limit - c.value-d.result} b).0 (omega arith) in
-    (omega arith, omega arith, rw v (sym (next-value a.base l.sum l.i a.digits.now h) ∙ l.invariant.2), one_more a.base l.i a.digits.now h (omega arith) l.invariant.3)
+pub loop-byte-preserved : goal.loop-byte-preserved
+loop-byte-preserved c =
+    let l = c.loop-byte in
+    let k = c.in_ok-digit.ensures.value in
+    let d = digit_at c.args.base c.from.result c.in_ok-digit.digit l.byte-index c.args.digits.now c.requires.at_most c.from.ensures k.0 k.1 in
+    let p : c.in_ok-checked_mul.field-0 ≡ l.sum * c.args.base = c.in_ok-checked_mul.ensures.1 ∙ rw c.into.ensures in
+    let s : c.in_ok-sum.sum ≡ l.sum * c.args.base + digit_value (get_or c.args.digits.now l.byte-index 0) =
+    omega (arith, c.in_ok-sum.ensures, p, c.into-in-loop-byte.ensures, d.0) in
+    let h : l.byte-index < length c.args.digits.now = omega arith in
+    record {
+      value = rw s (sym (next-value c.args.base l.sum l.byte-index c.args.digits.now h) ∙ l.invariant.value);
+      digits = one_more c.args.base l.byte-index c.args.digits.now h (omega (arith, d.0, d.1)) l.invariant.digits;
+    }
 
 pub returns : goal.returns
-returns c = let a = c.args in
-    let l = c.loop-i in
-    whole a.base l.sum a.limit l.i a.digits.now (omega arith) (omega arith) l.invariant.1 l.invariant.2 l.invariant.3
+returns c =
+    let l = c.loop-byte in
+    let some : 0 < length c.args.digits.now = grind (arith, nat_tests) in
+    c.then_some.ensures ∙ whole c.args.base l.sum c.args.limit l.byte-index c.args.digits.now some (omega arith) l.invariant.value l.invariant.digits

@@ -1,11 +1,9 @@
--- `text::put_decimal` meets its contract: the text from its first digit on is the number's, and `put_bytes` puts it.
-use mathlib.Core.Path.{◌∙◌}
-use Rattle.text.proofs.Ends.{to_end}
+use Rattle.std.proofs.Common.{rules, List, ℕ, subst}
+use Rattle.text.specs.Appended.{Appends}
+use Rattle.text.proofs.Decimals.{decimal_is}
 use Rattle.text.proofs.put_decimal.Goals as goal
 
 pub returns : goal.returns
 returns c =
-    let d = c.decimal-from in
-    let e = to_end d.new.out d.result 21 d.auto.out ∙ d.ensures.2 in
-    let p = c.put_bytes.ensures in
-    record { value = rw e at p.value; buf_after = rw e at p.buf_after }
+    let P : List ℕ → Type 0 = λ bs. Appends c.args.out.now c.extend_from_slice.new.self bs c.extend_from_slice.result in
+    subst P (decimal_is c.args.n c.ranges.n.fits) (search rules)

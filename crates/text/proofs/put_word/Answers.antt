@@ -1,7 +1,21 @@
--- `text::put_word` meets its contract: the text is `0x` and the word's eight digits, each the lowest digit of what is left of the word, and `put_bytes` puts it.
+-- The word's bytes are its eight digits, two and two.
+use Rattle.std.proofs.Common.{rules, ◌≡◌, ◌/◌, ◌%◌, ℕ, List, subst, arith}
+use Rattle.text.specs.Appended.{Appends}
+use Rattle.text.specs.Digits.{hex_word}
 use Rattle.text.proofs.put_word.Goals as goal
 
 pub returns : goal.returns
 returns c =
-    let p = c.put_bytes.ensures in
-    record { value = rw (c.low_digit.ensures, c.low_digit-2.ensures, c.low_digit-3.ensures, c.low_digit-4.ensures, c.low_digit-5.ensures, c.low_digit-6.ensures, c.low_digit-7.ensures, c.low_digit-8.ensures) at p.value; buf_after = rw (c.low_digit.ensures, c.low_digit-2.ensures, c.low_digit-3.ensures, c.low_digit-4.ensures, c.low_digit-5.ensures, c.low_digit-6.ensures, c.low_digit-7.ensures, c.low_digit-8.ensures) at p.buf_after }
+    let P : List ℕ → Type 0 = λ bs. Appends c.args.out.now c.extend_from_slice.new.self bs c.extend_from_slice.result in
+    let w = c.args.word in
+    let a : w / 16777216 % 256 / 16 % 16 ≡ w / 16 / 16 / 16 / 16 / 16 / 16 / 16 % 16 = omega arith in
+    let b : w / 16777216 % 256 % 16 ≡ w / 16 / 16 / 16 / 16 / 16 / 16 % 16 = omega arith in
+    let d : w / 65536 % 256 / 16 % 16 ≡ w / 16 / 16 / 16 / 16 / 16 % 16 = omega arith in
+    let e : w / 65536 % 256 % 16 ≡ w / 16 / 16 / 16 / 16 % 16 = omega arith in
+    let f : w / 256 % 256 / 16 % 16 ≡ w / 16 / 16 / 16 % 16 = omega arith in
+    let g : w / 256 % 256 % 16 ≡ w / 16 / 16 % 16 = omega arith in
+    let h : w % 256 / 16 % 16 ≡ w / 16 % 16 = omega arith in
+    let i : w % 256 % 16 ≡ w % 16 = omega arith in
+    let bytes : c.as_flattened.result.now ≡ hex_word w =
+    rw (c.as_flattened.ensures.value, c.hex.ensures, c.hex-2.ensures, c.hex-3.ensures, c.hex-4.ensures, c.to_be_bytes.ensures, a, b, d, e, f, g, h, i) in
+    subst P bytes (search rules)

@@ -1,59 +1,23 @@
--- `script::answers::put_answer` meets its contract: each arm puts the parts of its case.
-use mir.Syntax.{w64}
-use mir.ValLaws.{to_z-of_z}
-use Rattle.script.specs.Answer.{place_after_all, all_put}
+use Rattle.std.proofs.Common.{◌∷◌, [], Ok}
+use Rattle.script.specs.Answer.{row_parts}
+use Rattle.script.proofs.Written.{append, failed, extended, joined-append}
 use Rattle.script.proofs.answers.put_answer.Goals as goal
 
-pub returns-in-Nothing : goal.returns-in-Nothing
-unfolding place_after_all all_put
-returns-in-Nothing c = record { value = rw c.in-Nothing.is; buf_after = rw c.in-Nothing.is }
-
-pub returns-in-Ok : goal.returns-in-Ok
-unfolding place_after_all all_put
-returns-in-Ok c =
-    let e = c.put_bytes.ensures in
-    let t = c.in-Ok.is in
-    record { value = rw t e.value; buf_after = rw t e.buf_after }
-
-pub returns-in-Error : goal.returns-in-Error
-unfolding place_after_all all_put
-returns-in-Error c =
-    let e = c.put_bytes-in-Error.ensures in
-    let t = c.in-Error.is in
-    record { value = rw t e.value; buf_after = rw t e.buf_after }
-
-pub returns-in-Refused : goal.returns-in-Refused
-unfolding place_after_all all_put
-returns-in-Refused c =
-    let e = c.put_refused.ensures in
-    let t = c.in-Refused.is in
-    record { value = rw t e.value; buf_after = rw t e.buf_after }
-
-pub returns-in-Orders : goal.returns-in-Orders
-unfolding place_after_all all_put
-returns-in-Orders c =
-    let e = c.put_orders.ensures in
-    let t = c.in-Orders.is in
-    record { value = rw t e.value; buf_after = rw t e.buf_after }
+pub returns-in_err-put_row-in-Bytes : goal.returns-in_err-put_row-in-Bytes
+returns-in_err-put_row-in-Bytes c =
+    let w = c.in_ok-extend_from_slice-in-Bytes.ensures in
+    let row = c.in-Bytes.row.now in
+    let name = extended {E = Unit {0}} c.args.out.now c.extend_from_slice-in-Bytes.new.self (98 ∷ 121 ∷ 116 ∷ 101 ∷ 115 ∷ []) (Ok tt) w.items w.capacity w.succeeds in
+    rw c.in-Bytes.is (failed _ (10 ∷ []) _ c.from_residual-in_err-put_row-in-Bytes.ensures.0 (rw (joined-append (row_parts row) ((10 ∷ []) ∷ []))) (append name c.in_err-put_row-in-Bytes.ensures))
 
 pub returns-in-Words : goal.returns-in-Words
-unfolding place_after_all all_put
-returns-in-Words c =
-    let e = c.put_words.ensures in
-    let t = c.in-Words.is in
-    record { value = rw t e.value; buf_after = rw t e.buf_after }
+returns-in-Words c = rw c.in-Words.is c.put_words.ensures
 
-pub returns-in-Bytes : goal.returns-in-Bytes
-unfolding place_after_all all_put
-returns-in-Bytes c =
-    let e = c.put_bytes-in-Bytes.ensures in
-    let t = c.in-Bytes.is in
-    record { value = rw t e.value; buf_after = rw t e.buf_after }
-
-pub returns-in-Total : goal.returns-in-Total
-unfolding place_after_all all_put
-returns-in-Total c =
-    let t = c.in-Total.is in
-    let z = to_z-of_z w64 c.in-Total.total (record { sfits = c.in-Total.known_told-in-Total-1-own.given.0.1 }) in
-    let e = rw z at c.put_total.ensures in
-    record { value = rw t e.value; buf_after = rw t e.buf_after }
+pub returns-in_ok-put_row-in-Bytes : goal.returns-in_ok-put_row-in-Bytes
+returns-in_ok-put_row-in-Bytes c =
+    let w = c.in_ok-extend_from_slice-in-Bytes.ensures in
+    let n = c.extend_from_slice-in-Bytes-2.ensures in
+    let row = c.in-Bytes.row.now in
+    let name = extended {E = Unit {0}} c.args.out.now c.extend_from_slice-in-Bytes.new.self (98 ∷ 121 ∷ 116 ∷ 101 ∷ 115 ∷ []) (Ok tt) w.items w.capacity w.succeeds in
+    let end = extended c.put_row.new.out c.extend_from_slice-in-Bytes-2.new.self (10 ∷ []) c.extend_from_slice-in-Bytes-2.result n.items n.capacity n.succeeds in
+    rw (c.in-Bytes.is, joined-append (row_parts row) ((10 ∷ []) ∷ [])) (append name (append c.in_ok-put_row-in-Bytes.ensures end))

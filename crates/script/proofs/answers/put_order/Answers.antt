@@ -1,31 +1,9 @@
--- `script::answers::put_order` meets its contract: each arm puts the parts of its case.
-use Rattle.script.specs.Answer.{place_after_all, all_put}
+use Rattle.std.proofs.Common.{◌∷◌, [], Ok}
+use Rattle.script.proofs.Written.{append, extended, of_appends}
 use Rattle.script.proofs.answers.put_order.Goals as goal
 
-pub returns-in-Position : goal.returns-in-Position
-unfolding place_after_all all_put
-returns-in-Position c =
-    let e = c.put_position.ensures in
-    let t = c.in-Position.is in
-    record { value = rw t e.value; buf_after = rw t e.buf_after }
-
-pub returns-in-PositionD : goal.returns-in-PositionD
-unfolding place_after_all all_put
-returns-in-PositionD c =
-    let e = c.put_position_d.ensures in
-    let t = c.in-PositionD.is in
-    record { value = rw t e.value; buf_after = rw t e.buf_after }
-
-pub returns-in-Safe : goal.returns-in-Safe
-unfolding place_after_all all_put
-returns-in-Safe c =
-    let e = c.put_bytes.ensures in
-    let t = c.in-Safe.is in
-    record { value = rw t e.value; buf_after = rw t e.buf_after }
-
-pub returns-in-Rest : goal.returns-in-Rest
-unfolding place_after_all all_put
-returns-in-Rest c =
-    let e = c.put_bytes-in-Rest.ensures in
-    let t = c.in-Rest.is in
-    record { value = rw t e.value; buf_after = rw t e.buf_after }
+pub returns-in_ok-extend_from_slice-in-Position : goal.returns-in_ok-extend_from_slice-in-Position
+returns-in_ok-extend_from_slice-in-Position c =
+    let w = c.in_ok-extend_from_slice-in-Position.ensures in
+    let name = extended {E = Unit {0}} c.args.out.now c.extend_from_slice.new.self (112 ∷ 111 ∷ 115 ∷ 105 ∷ 116 ∷ 105 ∷ 111 ∷ 110 ∷ 32 ∷ []) (Ok tt) w.items w.capacity w.succeeds in
+    rw c.in-Position.is (append name (of_appends c.put_word.ensures))

@@ -1,22 +1,38 @@
--- `script::answers::put_orders` meets its contract: the parts of both orders are put, a space between them and the line's end behind.
-use mathlib.Core.Path.{sym, ◌∙◌}
-use Prim.Native.Nat.{ℕ}
-use mathlib.Core.List.{List, [], ◌∷◌, ◌++◌}
-use Rattle.script.specs.Answer.{place_after_all, all_put, order_parts}
-use Rattle.script.specs.Laws.{put-append, place-append}
+use Rattle.std.proofs.Common.{◌∷◌, [], ◌++◌, Ok, Err, ◌≡◌, sym, ◌∙◌, append_assoc}
+use Rattle.script.specs.Answer.{order_parts, joined}
+use Rattle.script.proofs.Written.{append, extended, failed, joined-append}
 use Rattle.script.proofs.answers.put_orders.Goals as goal
 
+pub returns-in_err-put_order : goal.returns-in_err-put_order
+returns-in_err-put_order c =
+    let rest = (32 ∷ []) ∷ (order_parts c.args.dout ++ ((10 ∷ []) ∷ [])) in
+    failed _ (joined rest) _ c.from_residual.ensures.0 (joined-append (order_parts c.args.ao) rest) c.in_err-put_order.ensures
+
+pub returns-in_err-extend_from_slice : goal.returns-in_err-extend_from_slice
+returns-in_err-extend_from_slice c =
+    let s = c.in_err-extend_from_slice.ensures in
+    let rest = order_parts c.args.dout ++ ((10 ∷ []) ∷ []) in
+    let space = extended {E = Unit {0}} c.put_order.new.out c.extend_from_slice.new.self (32 ∷ []) (Err tt) s.items s.capacity s.succeeds in
+    failed _ (joined rest) _ c.from_residual-in_err-extend_from_slice.ensures.0
+    (joined-append (order_parts c.args.ao) ((32 ∷ []) ∷ rest) ∙ sym (append_assoc (joined (order_parts c.args.ao)) (32 ∷ []) (joined rest)))
+    (append c.in_ok-put_order.ensures space)
+
+pub returns-in_err-put_order-2 : goal.returns-in_err-put_order-2
+returns-in_err-put_order-2 c =
+    let s = c.in_ok-extend_from_slice.ensures in
+    let ao = joined (order_parts c.args.ao) in
+    let dout = joined (order_parts c.args.dout) in
+    let space = extended {E = Unit {0}} c.put_order.new.out c.extend_from_slice.new.self (32 ∷ []) (Ok tt) s.items s.capacity s.succeeds in
+    let whole : joined (order_parts c.args.ao ++ ((32 ∷ []) ∷ (order_parts c.args.dout ++ ((10 ∷ []) ∷ [])))) ≡ (ao ++ (32 ∷ dout)) ++ (10 ∷ []) =
+    rw (joined-append (order_parts c.args.ao) ((32 ∷ []) ∷ (order_parts c.args.dout ++ ((10 ∷ []) ∷ []))), joined-append (order_parts c.args.dout) ((10 ∷ []) ∷ []))
+    (sym (append_assoc ao (32 ∷ dout) (10 ∷ []))) in
+    failed _ (10 ∷ []) _ c.from_residual-in_err-put_order-2.ensures.0 whole (append c.in_ok-put_order.ensures (append space c.in_err-put_order-2.ensures))
+
 pub returns : goal.returns
-unfolding place_after_all all_put
 returns c =
-    let a = c.args in
-    let d = c.put_order-a.ensures in
-    let e = c.put_bytes-b.ensures in
-    let f = c.put_order-c.ensures in
-    let g = c.put_bytes.ensures in
-    let rest : List (List ℕ) = (32 ∷ []) ∷ (order_parts a.dout ++ ((10 ∷ []) ∷ [])) in
-    let s = all_put a.buf.now a.at (order_parts a.ao) in
-    let p = place_after_all a.buf.now a.at (order_parts a.ao) in
-    let t = all_put s p ((32 ∷ []) ∷ []) in
-    let q = place_after_all s p ((32 ∷ []) ∷ []) in
-    record { value = rw (g.value, f.value, f.buf_after, e.value, e.buf_after, d.value, d.buf_after) (sym (place-append a.buf.now a.at (order_parts a.ao) rest ∙ place-append t q (order_parts a.dout) ((10 ∷ []) ∷ []))); buf_after = rw (g.buf_after, f.value, f.buf_after, e.value, e.buf_after, d.value, d.buf_after) (sym (put-append a.buf.now a.at (order_parts a.ao) rest ∙ put-append t q (order_parts a.dout) ((10 ∷ []) ∷ []))) }
+    let s = c.in_ok-extend_from_slice.ensures in
+    let n = c.extend_from_slice-2.ensures in
+    let space = extended {E = Unit {0}} c.put_order.new.out c.extend_from_slice.new.self (32 ∷ []) (Ok tt) s.items s.capacity s.succeeds in
+    let end = extended c.put_order-2.new.out c.extend_from_slice-2.new.self (10 ∷ []) c.extend_from_slice-2.result n.items n.capacity n.succeeds in
+    rw (joined-append (order_parts c.args.ao) ((32 ∷ []) ∷ (order_parts c.args.dout ++ ((10 ∷ []) ∷ []))), joined-append (order_parts c.args.dout) ((10 ∷ []) ∷ []))
+    (append c.in_ok-put_order.ensures (append space (append c.in_ok-put_order-2.ensures end)))

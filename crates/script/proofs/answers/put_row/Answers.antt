@@ -1,39 +1,38 @@
--- `script::answers::put_row` meets its contract, with this loop invariant: what is left of the row, put from `next` on, gives what the whole row gives; the measure is the rest of it.
-use Prim.Native.Nat.{◌<◌}
-use mathlib.Core.Path.{refl}
-use native.Mathlib.Omega.{arith}
-use borrow.Author.Rules.{rules}
-use lib.ListN.{length}
-use Rattle.script.specs.Answer.{place_after_all, all_put}
-use Rattle.script.specs.Laws.{row_at, row-ended}
+use Rattle.std.proofs.Common.{◌∷◌, [], ◌++◌, ◌+◌, take, drop, get_or, Ok, Err, sym, ◌∙◌, append_assoc, arith}
+use Rattle.text.specs.Digits.{hex_byte}
+use Rattle.script.specs.Answer.{joined, row_parts}
+use Rattle.script.proofs.Written.{append, failed, extended, of_appends, row_from, row_more}
 use Rattle.script.proofs.answers.put_row.Goals as goal
 
-pub loop-i-init : goal.loop-i-init
-loop-i-init c = (omega arith, refl, refl, refl)
+pub returns-in_err-extend_from_slice : goal.returns-in_err-extend_from_slice
+returns-in_err-extend_from_slice c =
+    let l = c.loop-byte in
+    let row = c.args.row.now in
+    let e = c.in_err-extend_from_slice.ensures in
+    let space = extended l.out c.extend_from_slice.new.self (32 ∷ []) (Err c.in_err-extend_from_slice.field-0.0) e.items e.capacity e.succeeds in
+    let rest = hex_byte (get_or row l.byte-index 0) ++ joined (row_parts (drop (l.byte-index + 1) row)) in
+    failed _ rest _ c.from_residual.ensures.0
+    (row_from row l.byte-index (omega arith) ∙ sym (append_assoc (joined (row_parts (take l.byte-index row))) (32 ∷ []) rest))
+    (append l.invariant space)
 
-pub bounds-row-i : goal.bounds-row-i
-bounds-row-i c = omega arith
+pub returns-in_err-put_byte : goal.returns-in_err-put_byte
+returns-in_err-put_byte c =
+    let l = c.loop-byte in
+    let row = c.args.row.now in
+    let e = c.in_ok-extend_from_slice.ensures in
+    let space = extended {E = Unit {0}} l.out c.extend_from_slice.new.self (32 ∷ []) (Ok tt) e.items e.capacity e.succeeds in
+    let rest = joined (row_parts (drop (l.byte-index + 1) row)) in
+    failed _ rest _ c.from_residual-in_err-put_byte.ensures.0
+    (row_from row l.byte-index (omega arith)
+    ∙ sym (append_assoc (joined (row_parts (take l.byte-index row))) ((32 ∷ []) ++ hex_byte (get_or row l.byte-index 0)) rest))
+    (append l.invariant (append space (of_appends c.in_err-put_byte.ensures)))
 
-pub overflow_add-i : goal.overflow_add-i
-overflow_add-i c = omega arith
-
-pub loop-i-smaller : goal.loop-i-smaller
-loop-i-smaller c = omega arith
-
-pub loop-i-preserved : goal.loop-i-preserved
-unfolding place_after_all all_put
-loop-i-preserved c =
-    let l = c.loop-i in
-    let a = c.args in
-    let h : l.i < length a.row.now = omega arith in
-    let d = c.put_bytes-place in
-    let e = c.put_byte-next in
-    let r = row_at a.row.now l.i h in
-    (omega arith, search rules, rw (e.ensures.value, e.ensures.buf_after, d.ensures.value, d.ensures.buf_after) (rw r at l.invariant.2), rw (e.ensures.value, e.ensures.buf_after, d.ensures.value, d.ensures.buf_after) (rw r at l.invariant.3))
-
-pub returns : goal.returns
-unfolding place_after_all all_put
-returns c =
-    let l = c.loop-i in
-    let e = row-ended c.args.row.now l.i (omega arith) in
-    record { value = rw e at l.invariant.2; buf_after = rw e at l.invariant.3 }
+pub loop-byte-preserved : goal.loop-byte-preserved
+loop-byte-preserved c =
+    let l = c.loop-byte in
+    let row = c.args.row.now in
+    let e = c.in_ok-extend_from_slice.ensures in
+    let b = c.in_ok-put_byte.ensures in
+    let space = extended {E = Unit {0}} l.out c.extend_from_slice.new.self (32 ∷ []) (Ok tt) e.items e.capacity e.succeeds in
+    let byte = extended {E = Unit {0}} c.extend_from_slice.new.self c.put_byte.new.out (hex_byte (get_or row l.byte-index 0)) (Ok tt) b.items b.capacity b.succeeds in
+    rw (row_more row l.byte-index (omega arith)) (append l.invariant (append space byte))

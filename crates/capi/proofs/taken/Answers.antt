@@ -1,6 +1,0 @@
--- `capi::taken` meets its contract: it is the device's call, with the answer as a number.
--- Assumes nothing.
-use Rattle.capi.proofs.taken.Goals as goal
-
-pub returns : goal.returns
-returns c = rw (c.numbered.ensures, c.telegram-taken.ensures)

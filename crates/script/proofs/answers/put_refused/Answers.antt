@@ -1,7 +1,0 @@
--- `script::answers::put_refused` meets its contract: the parts are put one after another, as the definition has it.
-use Rattle.script.specs.Answer.{place_after_all, all_put}
-use Rattle.script.proofs.answers.put_refused.Goals as goal
-
-pub returns : goal.returns
-unfolding place_after_all all_put
-returns c = record { value = cc; buf_after = cc }
