@@ -323,18 +323,26 @@ class Bench:
         for check in list(self.running):
             check.kill()
 
+    def once(self, words, environment, folder):
+        """What a check prints, and its exit status; 3, which is no verdict, where it takes too long."""
+        check = subprocess.Popen(words, stdout=subprocess.PIPE, stderr=subprocess.STDOUT, stdin=subprocess.DEVNULL, env=environment, cwd=folder)
+        self.running.add(check)
+        try:
+            return check.communicate(timeout=LIMIT)[0], check.returncode
+        except subprocess.TimeoutExpired:
+            check.kill()
+            return check.communicate()[0] + b"\nno verdict after %d s\n" % LIMIT, 3
+        finally:
+            self.running.discard(check)
+
     def run(self, folder, top, sources, incremental, verb="check", more=("--jobs", "1")):
         words = [self.kit.rattle, verb, *self.kit.words(folder, top, sources, self.rlibs), "--incremental", incremental, *more]
         began = time.time()
         environment = dict(os.environ, TMPDIR=self.folder)
-        check = subprocess.Popen(words, stdout=subprocess.PIPE, stderr=subprocess.STDOUT, stdin=subprocess.DEVNULL, env=environment, cwd=folder)
-        self.running.add(check)
-        try:
-            log, status = check.communicate(timeout=LIMIT)[0], check.returncode
-        except subprocess.TimeoutExpired:
-            check.kill()
-            log, status = check.communicate()[0] + b"\nno verdict after %d s\n" % LIMIT, 3
-        self.running.discard(check)
+        log, status = self.once(words, environment, folder)
+        # A check that a signal ended has said nothing: it is made once more.
+        if status < 0 and not self.stopped:
+            log, status = self.once(words, environment, folder)
         if self.stopped:
             raise Stop("stopped")
         what = "%s as it is" % top if verb == "build" else top if len(sources) == 1 else "%s with what it uses" % top

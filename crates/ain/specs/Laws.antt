@@ -1,6 +1,6 @@
 -- Laws of AIN's tick: when an Auto tick is Good, that OUT stays finite, and that no alarm rises and falls in one tick. Assumes nothing.
 use Prim.Native.Nat.{ℕ}
-use Rattle.std.specs.Prelude.{◌≡◌, Bool, false, not, ◌&&◌, ◌||◌, cond, T, eqb, pos, Float}
+use Rattle.std.specs.Prelude.{◌≡◌, Bool, false, not, ◌&&◌, ◌||◌, cond, T, eqb, pos, Float, Err}
 use Rattle.std.proofs.Math.Path.{refl, ap}
 use Rattle.std.proofs.Common.{sym, ◌∙◌, true≢false}
 use Rattle.std.proofs.Math.Bool.{true}
@@ -19,9 +19,7 @@ use Rattle.linearisation.specs.Value.{value_at}
 use Rattle.linearisation.specs.Laws.{unfinished-stays}
 use Rattle.wire.specs.Status.{quality_of}
 use Rattle.blocks.specs.declared.Kept.{Kept}
-use Rattle.blocks.specs.declared.Input.{Input}
-use Rattle.blocks.specs.declared.Input.TheVariants.{Usable, Bad}
-use Rattle.blocks.specs.Common.{good}
+use Rattle.blocks.specs.Common.{InputStatus, usable_input, good}
 use Rattle.blocks.specs.Laws.{present-holds, fail-safe-not-good, fail-safe-holds, input-holds, good-by-input}
 use Rattle.ain.specs.declared.Settings.{Settings}
 use Rattle.ain.specs.declared.Alarms.{Alarms}
@@ -92,14 +90,14 @@ module _ (s : Settings) (table : Table) (st : State) (mode bits status : ℕ) wh
   abbrev pv : Float
   pv = calculated s table st.filter bits
 
-  outcome : Input → ℕ
+  outcome : InputStatus → ℕ
   outcome i = (auto_by s table st mode bits status i).out.status
 
-  bad-outcome : (bad : ℕ) → good bad ≡ false → good (outcome (Bad bad)) ≡ false
+  bad-outcome : (bad : ℕ) → good bad ≡ false → good (outcome (Err bad)) ≡ false
   unfolding outcome auto_by unusable_tick fail_safe_out
   bad-outcome bad = fail-safe-not-good 0 s.fsafe_type _ _ _ _ bad
 
-  usable-outcome : good (outcome Usable) ≡ good status
+  usable-outcome : good (outcome usable_input) ≡ good status
   unfolding outcome auto_by usable_tick
   usable-outcome = alarm-status-good (alarms_of s st.alarms (float_of (bits_of pv))) status
 
@@ -161,7 +159,7 @@ module _ (s : Settings) (table : Table) (st : State) (h : FiniteStore s st) (mod
   finite_out : State → Type 0
   finite_out next = finite (float_of next.out.bits) ≡ true
 
-  held-finite : (bad : ℕ) → finite_out (auto_by s table st mode bits status (Bad bad))
+  held-finite : (bad : ℕ) → finite_out (auto_by s table st mode bits status (Err bad))
   unfolding finite_out auto_by unusable_tick fail_safe_out of_bits
   held-finite bad =
       fail-safe-holds 0 s.fsafe_type (bits_of s.fsafe_value) _ _ st.out.bits bad finite_bits refl (written s.fsafe_value h.value)
@@ -171,7 +169,7 @@ module _ (s : Settings) (table : Table) (st : State) (h : FiniteStore s st) (mod
       finite_bits : ℕ → Type 0
       finite_bits b = finite (float_of b) ≡ true
 
-  usable-finite : finite (calculated s table st.filter bits) ≡ true → finite_out (auto_by s table st mode bits status Usable)
+  usable-finite : finite (calculated s table st.filter bits) ≡ true → finite_out (auto_by s table st mode bits status usable_input)
   unfolding finite_out auto_by usable_tick
   usable-finite p = written (calculated s table st.filter bits) (calculated-fits s table st.filter bits, p)
 

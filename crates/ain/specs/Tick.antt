@@ -1,5 +1,5 @@
 -- AIN's tick, document 01, AIN tick and Mode, and document 02, request 1. Assumes nothing.
-use Rattle.std.specs.Prelude.{ℕ, Bool, ◌&&◌, cond, eqb, Float}
+use Rattle.std.specs.Prelude.{ℕ, Bool, ◌&&◌, cond, eqb, Float, Ok, Err}
 use Rattle.std.specs.Float.Ieee.Scale.{finite}
 use Rattle.numbers.specs.Floats.{float_of, bits_of}
 use Rattle.linearisation.specs.declared.Table.{Table}
@@ -7,9 +7,7 @@ use Rattle.linearisation.specs.Table.{pairs_of}
 use Rattle.linearisation.specs.Value.{value_at}
 use Rattle.wire.specs.declared.Pair.{Pair}
 use Rattle.blocks.specs.declared.Kept.{Kept}
-use Rattle.blocks.specs.declared.Input.{Input}
-use Rattle.blocks.specs.declared.Input.TheVariants.{Usable, Bad}
-use Rattle.blocks.specs.Common.{as_pair, out_of_service, man, actual_mode, in_mode, held_out, none, kept, input_status}
+use Rattle.blocks.specs.Common.{as_pair, out_of_service, man, actual_mode, in_mode, held_out, none, kept, InputStatus, input_status}
 use Rattle.blocks.specs.InputBlock.{present, fail_safe_pair}
 use Rattle.ain.specs.declared.Settings.{Settings}
 use Rattle.ain.specs.declared.State.{State}
@@ -29,7 +27,7 @@ calculated s table filter bits = filtered s.pv_ftime filter (scaled_value s tabl
 
 -- A5: the input status of a tick, by whether its value, and both the scaled and the filtered one, are finite. Q1.8: a value that the table made
 -- and that isn't finite is scaled to one that isn't (Laws, scaled-unfinished)
-unfoldable pub input_of : Settings → Table → Kept → ℕ → ℕ → Input
+unfoldable pub input_of : Settings → Table → Kept → ℕ → ℕ → InputStatus
 input_of s table filter bits status =
     input_status status (finite (float_of bits)) (finite (scaled_value s table bits) && finite (calculated s table filter bits))
 
@@ -66,9 +64,9 @@ unusable_tick s st mode scaled bad =
     }
 
 -- A6: an Auto tick by its input status
-unfoldable pub auto_by : Settings → Table → State → ℕ → ℕ → ℕ → Input → State
-auto_by s table st mode bits status Usable = usable_tick s st mode (calculated s table st.filter bits) status
-auto_by s table st mode bits status (Bad bad) = unusable_tick s st mode (scaled_value s table bits) bad
+unfoldable pub auto_by : Settings → Table → State → ℕ → ℕ → ℕ → InputStatus → State
+auto_by s table st mode bits status (Ok u) = usable_tick s st mode (calculated s table st.filter bits) status
+auto_by s table st mode bits status (Err bad) = unusable_tick s st mode (scaled_value s table bits) bad
 
 unfoldable pub auto_tick : Settings → Table → State → ℕ → ℕ → ℕ → State
 unfolding auto_by

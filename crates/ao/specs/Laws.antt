@@ -1,7 +1,6 @@
 -- Laws of AO: the test of the end result suffices, and OUT stays finite. What AO and DO have in common is in `blocks`. Assumes nothing.
-use Rattle.std.specs.Prelude.{◌≡◌, refl, Bool, true, false, cond, ℕ, eqb, Float}
+use Rattle.std.specs.Prelude.{◌≡◌, refl, Bool, true, false, cond, ℕ, eqb, Float, None, Some}
 use Rattle.std.proofs.Common.{ap, ◌∙◌, arith}
-use Rattle.std.proofs.Math.Option.{none, some}
 use Rattle.std.specs.Float.{binary32}
 use Rattle.std.specs.Float.Ieee.{sub}
 use Rattle.std.specs.Float.Ieee.Fits.{add-fits}
@@ -33,11 +32,11 @@ scaled-back : (s : Settings) (w : Float) → float_of (bits_of (scaled_out s w))
 unfolding scaled_out at_fraction
 scaled-back s w = float_back (scaled_out s w) (add-fits binary32 _ _)
 
-pub out-of-finite : (s : Settings) (w : Float) (bits : ℕ) → out_of s w ≡ some bits → finite (float_of bits) ≡ true
+pub out-of-finite : (s : Settings) (w : Float) (bits : ℕ) → out_of s w ≡ Some bits → finite (float_of bits) ≡ true
 unfolding out_of
 out-of-finite s w bits = go (finite (scaled_out s w)) refl
   where
-    go : (b : Bool) → finite (scaled_out s w) ≡ b → cond b (some (bits_of (scaled_out s w))) none ≡ some bits → finite (float_of bits) ≡ true
+    go : (b : Bool) → finite (scaled_out s w) ≡ b → cond b (Some (bits_of (scaled_out s w))) None ≡ Some bits → finite (float_of bits) ≡ true
     go true e h = let z : bits_of (scaled_out s w) ≡ bits = cc in rw z at (ap finite (scaled-back s w) ∙ e)
     go false e h = let z : ◌≡◌ {A = ℕ} 0 1 = cc in absurd (omega arith)
 

@@ -2,5 +2,4 @@
 pub mod State
 pub mod Telegram
 pub mod Tick
-pub mod Code
 pub mod Laws

@@ -5,13 +5,14 @@ use Rattle.wire.specs.declared.Pair.{Pair}
 use Rattle.blocks.specs.Common.{out_of_service, fresh_operator}
 use Rattle.ao.specs.declared.Input.{Input}
 use Rattle.ao.specs.declared.State.{State}
-use Rattle.blocks.specs.FailSafe.{InputOf, emptied}
+use Rattle.blocks.specs.declared.setpoint.Setpoint.{Setpoint}
+use Rattle.blocks.specs.FailSafe.{emptied}
 
 -- an input as the rules have it, and as the state holds it
-abbrev pub input_of : Input → InputOf Float
+abbrev pub input_of : Input → Setpoint Float
 input_of i = record { some = i.some; value = i.value; silence = i.silence; ifs = i.ifs }
 
-abbrev pub input_from : InputOf Float → Input
+abbrev pub input_from : Setpoint Float → Input
 input_from i = record { some = i.some; value = i.value; silence = i.silence; ifs = i.ifs }
 
 -- no usable telegram and no IFS came since start

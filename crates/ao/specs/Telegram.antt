@@ -6,7 +6,6 @@ use Rattle.wire.specs.declared.Pair.{Pair}
 use Rattle.wire.specs.Bytes.{pair_of}
 use Rattle.ao.specs.declared.Input.{Input}
 use Rattle.ao.specs.declared.State.{State}
-use Rattle.ao.specs.declared.Taken.{Taken}
 use Rattle.blocks.specs.FailSafe.{after_telegram}
 use Rattle.blocks.specs.Output.{TakenOf, telegram_by}
 use Rattle.ao.specs.State.{input_of, input_from}
@@ -23,10 +22,6 @@ taken_on state input pair =
     (record { out = state.out; mode = state.mode; operator = state.operator; sp = input_after state.sp pair; rcas_in = state.rcas_in })
     (record { out = state.out; mode = state.mode; operator = state.operator; sp = state.sp; rcas_in = input_after state.rcas_in pair })
 
--- a state with the answer, as the rules have it and as the code does
-abbrev pub taken_from : TakenOf State → Taken
-taken_from t = record { state = t.state; answer = t.answer }
-
 -- F2, F9, F10: AO lacks the inputs over 1
-unfoldable pub telegram_of : State → ℕ → List ℕ → Taken
-telegram_of state input bytes = taken_from (telegram_by (ltb 1 input) (taken_on state input) state (pair_of bytes))
+unfoldable pub telegram_of : State → ℕ → List ℕ → TakenOf State
+telegram_of state input bytes = telegram_by (ltb 1 input) (taken_on state input) state (pair_of bytes)

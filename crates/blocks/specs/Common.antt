@@ -1,28 +1,29 @@
 -- What the function blocks have in common, for either kind of value: document 01, Mode, Parameters and AIN tick (input status), and document 02, requests 2
 -- and 3. Assumes nothing.
-use Rattle.std.specs.Prelude.{ℕ, Bool, true, false, not, ◌&&◌, ◌||◌, cond, eqb, Float}
+use Rattle.std.specs.Prelude.{ℕ, Bool, true, false, not, ◌&&◌, ◌||◌, cond, eqb, Float, Option, None, Some, Result, Ok, Err}
 use Rattle.std.specs.Float.{binary32}
 use Rattle.std.specs.Float.Ieee.{of_bits}
 use Rattle.wire.specs.declared.Pair.{Pair}
 use Rattle.wire.specs.declared.Discrete.{Discrete}
 use Rattle.wire.specs.Status.{quality_of}
 use Rattle.blocks.specs.declared.Kept.{Kept}
-use Rattle.blocks.specs.declared.Input.{Input}
-use Rattle.blocks.specs.declared.Input.TheVariants.{Usable, Bad}
+use Rattle.blocks.specs.declared.PairOf.{PairOf}
 
 -- ---- pairs
 
--- a value, of any type A, and its status
-pub record PairOf (A : Type 0) : Type 0 where
-  pub value : A
-  pub status : ℕ
-
--- S4, Q3.4a: as the code has it: a float by its bits, and a discrete value by its byte
+-- S4, Q3.4a: a value of any type A and its status, as a device has it: a float by its bits, and a discrete value by its byte
 abbrev pub as_pair : PairOf ℕ → Pair
 as_pair p = record { bits = p.value; status = p.status }
 
 abbrev pub as_discrete : PairOf ℕ → Discrete
 as_discrete p = record { value = p.value; status = p.status }
+
+-- the same the other way round
+abbrev pub of_pair : Pair → PairOf ℕ
+of_pair p = record { value = p.bits; status = p.status }
+
+abbrev pub of_discrete : Discrete → PairOf ℕ
+of_discrete p = record { value = p.value; status = p.status }
 
 -- ---- modes
 
@@ -87,14 +88,26 @@ none = record { some = false; value = of_bits binary32 0 }
 abbrev pub kept : Float → Kept
 kept x = record { some = true; value = x }
 
+-- as a device has one
+abbrev pub as_kept : Option Float → Kept
+as_kept None = none
+as_kept (Some x) = kept x
+
+-- A5, A6: a tick's input: usable, or else the Bad status that the tick goes by
+abbrev pub InputStatus : Type 0
+InputStatus = Result Unit ℕ
+
+abbrev pub usable_input : InputStatus
+usable_input = Ok tt
+
 -- A5: the Bad status of an input: Good Cascade is taken for 0x04, a Bad byte as it came; then it is 0x10 if the value isn't finite, and 0x04 if what is
 -- calculated of it isn't. A6: an input without a Bad status is usable. The flags say whether the value, and what is calculated of it, is finite.
-unfoldable pub input_status : ℕ → Bool → Bool → Input
+unfoldable pub input_status : ℕ → Bool → Bool → InputStatus
 input_status status value calculated =
-    cond (eqb (quality_of status) 3) (Bad 0x04)
-    (cond (eqb (quality_of status) 0) (Bad status)
-    (cond (not value) (Bad 0x10)
-    (cond (not calculated) (Bad 0x04) Usable)))
+    cond (eqb (quality_of status) 3) (Err 0x04)
+    (cond (eqb (quality_of status) 0) (Err status)
+    (cond (not value) (Err 0x10)
+    (cond (not calculated) (Err 0x04) usable_input)))
 
 -- R8: Good is quality 2, and not 3
 abbrev pub good : ℕ → Bool

@@ -1,11 +1,15 @@
 -- Setpoint inputs, the fail-safe decision and what each case gives, document 01, AO tick, over any type A of setpoint and any type O of output value:
 -- nothing here depends on the kind of value. Assumes nothing.
-use Rattle.std.specs.Prelude.{ℕ, ◌+◌, min, Bool, true, false, cond, not, ◌&&◌, ◌||◌, eqb, ltb}
-use Rattle.std.proofs.Math.Option.{Option, none, some}
+use Rattle.std.specs.Prelude.{ℕ, ◌+◌, min, Bool, true, false, cond, not, ◌&&◌, ◌||◌, eqb, ltb, Option, None, Some}
 use Rattle.wire.specs.Status.{quality_of, sub_status_of}
 use Rattle.blocks.specs.Common.{out_of_service, man}
-use Rattle.blocks.specs.declared.Class.{Class}
-use Rattle.blocks.specs.declared.Class.TheVariants.{Usable, InitiateFailSafe, Neither}
+use Rattle.blocks.specs.declared.setpoint.Setpoint.{Setpoint}
+use Rattle.blocks.specs.declared.setpoint.Case.{Case}
+use Rattle.blocks.specs.declared.setpoint.Case.TheVariants.{Following, Fallback, Held, NothingHeld, Safety}
+use Rattle.blocks.specs.declared.setpoint.Order.TheVariants.{Position, Safe, Rest}
+use Rattle.blocks.specs.declared.setpoint.Given.{Given}
+use Rattle.blocks.specs.declared.setpoint.Class.{Class}
+use Rattle.blocks.specs.declared.setpoint.Class.TheVariants.{Usable, InitiateFailSafe, Neither}
 
 -- ---- telegrams
 
@@ -30,19 +34,13 @@ initiates status = eqb (class_number (class_of status)) 2
 
 -- ---- an input
 
--- O3 to O5: of one input's telegrams: whether a usable one came since start and the value of the last one; n, which stops at 65,536;
--- whether an IFS came with no usable one after it. Without a usable telegram the value is the type's zero and n is 0.
-pub record InputOf (A : Type 0) : Type 0 where
-  pub some : Bool
-  pub value : A
-  pub silence : ℕ
-  pub ifs : Bool
-
-unfoldable pub emptied : {A : Type 0} → A → InputOf A
+-- O3 to O5: of one input's telegrams, over the code's own type: whether a usable one came since start and the value of the last one; n, which stops at
+-- 65,536; whether an IFS came with no usable one after it. Without a usable telegram the value is the type's zero and n is 0.
+unfoldable pub emptied : {A : Type 0} → A → Setpoint A
 emptied zero = record { some = false; value = zero; silence = 0; ifs = false }
 
 -- O2: after a telegram: a usable one is the last one and restarts n; an IFS is remembered; any other leaves all as it was
-unfoldable pub after_telegram : {A : Type 0} → ℕ → Bool → A → InputOf A → InputOf A
+unfoldable pub after_telegram : {A : Type 0} → ℕ → Bool → A → Setpoint A → Setpoint A
 after_telegram status finite_value value input =
     cond (usable status finite_value) (record { some = true; value = value; silence = 0; ifs = false })
     (cond (initiates status) (record { some = input.some; value = input.value; silence = input.silence; ifs = true }) input)
@@ -51,7 +49,7 @@ after_telegram status finite_value value input =
 unfoldable pub silence_after : Bool → ℕ → ℕ
 silence_after came n = cond came (min (n + 1) 65536) 0
 
-unfoldable pub after_tick : {A : Type 0} → InputOf A → InputOf A
+unfoldable pub after_tick : {A : Type 0} → Setpoint A → Setpoint A
 after_tick input =
     record { some = input.some; value = input.value; silence = silence_after input.some input.silence; ifs = input.ifs }
 
@@ -61,58 +59,38 @@ after_tick input =
 unfoldable pub fail_safe_acts : Bool → ℕ → Bool → ℕ → Bool
 fail_safe_acts came n ifs time = not came || ltb time n || ifs
 
--- O6, O7: the cases that decide value, status and order
-pub data Case (A : Type 0) : Type 0 where
-  following : A → Case A
-  fallback : A → Case A
-  held : A → Case A
-  nothing_held : Case A
-  safety : Case A
-
 -- O7: by FSAFE_TYPE: 0 falls back on FSAFE_VALUE, 1 holds the value last usable, if any, 2 is the safety case; a type over 2, which no write stores, is as 2
 unfoldable pub fail_safe_case : {A : Type 0} → ℕ → A → Bool → A → Case A
 fail_safe_case kind fsafe_value came last =
-    cond (eqb kind 0) (fallback fsafe_value) (cond (eqb kind 1) (cond came (held last) nothing_held) safety)
+    cond (eqb kind 0) (Fallback fsafe_value) (cond (eqb kind 1) (cond came (Held last) NothingHeld) Safety)
 
 -- O5, O6: the case of a tick in Auto or RCas, by FSAFE_TIME, FSAFE_TYPE and FSAFE_VALUE: where fail-safe does not act it follows the last usable telegram
-unfoldable pub case_of : {A : Type 0} → ℕ → ℕ → A → InputOf A → Case A
+unfoldable pub case_of : {A : Type 0} → ℕ → ℕ → A → Setpoint A → Case A
 case_of time kind fsafe_value input =
-    cond (fail_safe_acts input.some input.silence input.ifs time) (fail_safe_case kind fsafe_value input.some input.value) (following input.value)
+    cond (fail_safe_acts input.some input.silence input.ifs time) (fail_safe_case kind fsafe_value input.some input.value) (Following input.value)
 
 -- ---- what a tick gives
 
--- C4: the drive orders; a position is the output's value
-pub data OrderOf (O : Type 0) : Type 0 where
-  position : O → OrderOf O
-  safe : OrderOf O
-  rest : OrderOf O
-
--- C3: value and status given as OUT, and the drive order
-pub record GivenOf (O : Type 0) : Type 0 where
-  pub value : O
-  pub status : ℕ
-  pub order : OrderOf O
-
 -- O10: a value with its status, and the order to go there
-abbrev pub positioned : {O : Type 0} → O → ℕ → GivenOf O
-positioned value status = record { value = value; status = status; order = position value }
+abbrev pub positioned : {O : Type 0} → O → ℕ → Given O
+positioned value status = record { value = value; status = status; order = Position value }
 
 -- O9: what scaling led to, with the case's status; the old value with 0x04 where that is not finite
-abbrev pub scaled_or : {O : Type 0} → O → ℕ → Option O → GivenOf O
-scaled_or old status none = positioned old 0x04
-scaled_or old status (some out) = positioned out status
+abbrev pub scaled_or : {O : Type 0} → O → ℕ → Option O → Given O
+scaled_or old status None = positioned old 0x04
+scaled_or old status (Some out) = positioned out status
 
 -- O6, O7: what a case leads to, `scaled` being OUT by the working value where that is finite.
 -- O8: the last two scale nothing and leave OUT's value; O7: the last gives 0x00 and orders Safe
-unfoldable pub leads_to : {A O : Type 0} → (A → Option O) → O → Case A → GivenOf O
-leads_to scaled old (following w) = scaled_or old 0x80 (scaled w)
-leads_to scaled old (fallback w) = scaled_or old 0x48 (scaled w)
-leads_to scaled old (held w) = scaled_or old 0x44 (scaled w)
-leads_to scaled old nothing_held = positioned old 0x4C
-leads_to scaled old safety = record { value = old; status = 0x00; order = safe }
+unfoldable pub leads_to : {A O : Type 0} → (A → Option O) → O → Case A → Given O
+leads_to scaled old (Following w) = scaled_or old 0x80 (scaled w)
+leads_to scaled old (Fallback w) = scaled_or old 0x48 (scaled w)
+leads_to scaled old (Held w) = scaled_or old 0x44 (scaled w)
+leads_to scaled old NothingHeld = positioned old 0x4C
+leads_to scaled old Safety = record { value = old; status = 0x00; order = Safe }
 
 -- M2, O11: what a tick gives by its actual mode: in O/S the old value under 0x1F, at Rest; in Man the operator's pair; in another mode, Auto or RCas,
 -- what the case leads to
-unfoldable pub by_mode : {O : Type 0} → ℕ → O → O → ℕ → GivenOf O → GivenOf O
+unfoldable pub by_mode : {O : Type 0} → ℕ → O → O → ℕ → Given O → Given O
 by_mode mode old operator operator_status led =
-    cond (eqb mode out_of_service) (record { value = old; status = 0x1F; order = rest }) (cond (eqb mode man) (positioned operator operator_status) led)
+    cond (eqb mode out_of_service) (record { value = old; status = 0x1F; order = Rest }) (cond (eqb mode man) (positioned operator operator_status) led)

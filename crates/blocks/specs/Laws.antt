@@ -5,19 +5,20 @@ use Rattle.std.specs.Prelude.{◌≡◌, cond, not, ◌&&◌, ◌||◌, ℕ, ◌
 use Rattle.std.proofs.Math.Path.{refl}
 use Rattle.std.proofs.Common.{sym, ap, ◌∙◌, subst, true≢false, arith, eqb-true, lt-ltb, le-ltb, ltb-true, ltb-false}
 use Rattle.std.proofs.Math.Bool.{Bool, true, false}
-use Rattle.std.proofs.Math.Option.{Option, none, some}
+use Rattle.std.specs.Prelude.{Option, None, Some}
 use Rattle.wire.specs.Status.{quality_of, sub_status_of}
 use Rattle.wire.specs.declared.Refusal.{Refusal}
-use Rattle.wire.specs.Refusal.{Answer}
-use Rattle.blocks.specs.declared.Class.{Class}
-use Rattle.blocks.specs.declared.Class.TheVariants.{Usable, InitiateFailSafe, Neither}
-use Rattle.blocks.specs.declared.Input.{Input}
-use Rattle.blocks.specs.declared.Input.TheVariants.{Usable as UsableInput, Bad}
-use Rattle.blocks.specs.Common.{out_of_service, man, in_mode, input_status, good}
+use Rattle.blocks.specs.declared.setpoint.Class.{Class}
+use Rattle.blocks.specs.declared.setpoint.Class.TheVariants.{Usable, InitiateFailSafe, Neither}
+use Rattle.blocks.specs.Common.{out_of_service, man, in_mode, InputStatus, usable_input, input_status, good}
 use Rattle.blocks.specs.Discrete.{is_discrete, exchanged, inverted, discrete_value}
 use Rattle.blocks.specs.InputBlock.{present, last_usable_or, scaled_or_old, fail_safe_pair}
-use Rattle.blocks.specs.FailSafe.{class_of, class_number, usable, initiates, InputOf, after_telegram, silence_after, fail_safe_acts, fail_safe_case, case_of}
-use Rattle.blocks.specs.FailSafe.{following, fallback, held, nothing_held, safety, rest, GivenOf, positioned, scaled_or, leads_to, by_mode}
+use Rattle.blocks.specs.declared.setpoint.Setpoint.{Setpoint}
+use Rattle.blocks.specs.declared.setpoint.Case.TheVariants.{Following, Fallback, Held, NothingHeld, Safety}
+use Rattle.blocks.specs.declared.setpoint.Order.TheVariants.{Rest}
+use Rattle.blocks.specs.declared.setpoint.Given.{Given}
+use Rattle.blocks.specs.FailSafe.{class_of, class_number, usable, initiates, after_telegram, silence_after, fail_safe_acts, fail_safe_case, case_of}
+use Rattle.blocks.specs.FailSafe.{positioned, scaled_or, leads_to, by_mode}
 use Rattle.blocks.specs.Output.{telegram_by}
 
 -- ---- discrete values
@@ -69,7 +70,7 @@ mode-holds P mode x y z p q r = go (eqb mode out_of_service) (eqb mode man)
     go false false = r
 
 -- Whatever holds of a value if it is there holds of it as one that may be missing.
-pub present-holds : {A : Type 0} (P : A → Type 0) (there : Bool) (x : A) → (there ≡ true → P x) → (v : A) → present there x ≡ some v → P v
+pub present-holds : {A : Type 0} (P : A → Type 0) (there : Bool) (x : A) → (there ≡ true → P x) → (v : A) → present there x ≡ Some v → P v
 present-holds P true x h v e = let z : x ≡ v = cc in subst P z (h refl)
 present-holds P false x h v e = let z : ◌≡◌ {A = ℕ} 0 1 = cc in absurd (omega arith)
 
@@ -82,24 +83,24 @@ module _ {A : Type 0} (zero : A) (kind : ℕ) (fsafe_value : A) (last scaled : O
       go : (a b : Bool) (x y : Option A)
           → good (cond a (record { value = fsafe_value; status = 0x48 }) (cond b (last_usable_or zero x) (scaled_or_old old bad y))).status ≡ false
       go true b x y = refl
-      go false true none y = refl
-      go false true (some x) y = refl
-      go false false x none = h
-      go false false x (some y) = h
+      go false true None y = refl
+      go false true (Some x) y = refl
+      go false false x None = h
+      go false false x (Some y) = h
 
   -- Whatever holds of each value that fail-safe can give holds of the one given.
-  pub fail-safe-holds : (P : A → Type 0) → P zero → P fsafe_value → ((x : A) → last ≡ some x → P x) → ((x : A) → scaled ≡ some x → P x) → P old
+  pub fail-safe-holds : (P : A → Type 0) → P zero → P fsafe_value → ((x : A) → last ≡ Some x → P x) → ((x : A) → scaled ≡ Some x → P x) → P old
       → P (fail_safe_pair zero kind fsafe_value last scaled old bad).value
   unfolding fail_safe_pair
   fail-safe-holds P z f l c o = go (eqb kind 0) (eqb kind 1) last l scaled c
     where
-      go : (a b : Bool) (x : Option A) → ((v : A) → x ≡ some v → P v) → (y : Option A) → ((v : A) → y ≡ some v → P v)
+      go : (a b : Bool) (x : Option A) → ((v : A) → x ≡ Some v → P v) → (y : Option A) → ((v : A) → y ≡ Some v → P v)
           → P (cond a (record { value = fsafe_value; status = 0x48 }) (cond b (last_usable_or zero x) (scaled_or_old old bad y))).value
       go true b x l y c = f
-      go false true none l y c = z
-      go false true (some v) l y c = l v refl
-      go false false x l none c = o
-      go false false x l (some v) c = c v refl
+      go false true None l y c = z
+      go false true (Some v) l y c = l v refl
+      go false false x l None c = o
+      go false false x l (Some v) c = c v refl
 
 -- A5: a status that is Bad by itself or counts as Bad is not Good
 other-quality : (status k : ℕ) → eqb (quality_of status) k ≡ true → eqb k 2 ≡ false → good status ≡ false
@@ -115,13 +116,13 @@ and-true false = refl
 
 module _ (status : ℕ) (value calculated : Bool) where
   -- Whatever a tick gives for each Bad status, and for a usable input where value and calculated value pass, it gives for the input.
-  pub input-holds : {X : Type 0} (P : X → Type 0) (given : Input → X) → ((bad : ℕ) → P (given (Bad bad)))
-      → (value ≡ true → calculated ≡ true → P (given UsableInput)) → P (given (input_status status value calculated))
+  pub input-holds : {X : Type 0} (P : X → Type 0) (given : InputStatus → X) → ((bad : ℕ) → P (given (Err bad)))
+      → (value ≡ true → calculated ≡ true → P (given usable_input)) → P (given (input_status status value calculated))
   unfolding input_status
   input-holds P given b u = go (eqb (quality_of status) 3) (eqb (quality_of status) 0) value calculated u
     where
-      go : (c z v k : Bool) → (v ≡ true → k ≡ true → P (given UsableInput))
-          → P (given (cond c (Bad 0x04) (cond z (Bad status) (cond (not v) (Bad 0x10) (cond (not k) (Bad 0x04) UsableInput)))))
+      go : (c z v k : Bool) → (v ≡ true → k ≡ true → P (given usable_input))
+          → P (given (cond c (Err 0x04) (cond z (Err status) (cond (not v) (Err 0x10) (cond (not k) (Err 0x04) usable_input)))))
       go true z v k u = b 0x04
       go false true v k u = b status
       go false false false k u = b 0x10
@@ -130,7 +131,7 @@ module _ (status : ℕ) (value calculated : Bool) where
 
   -- Where no Bad status leads to a Good one, and a usable input gives a Good one exactly for a Good input: Good is given exactly for a Good input whose value
   -- and calculated value pass.
-  pub good-by-input : (given : Input → ℕ) → ((bad : ℕ) → good bad ≡ false → good (given (Bad bad)) ≡ false) → good (given UsableInput) ≡ good status
+  pub good-by-input : (given : InputStatus → ℕ) → ((bad : ℕ) → good bad ≡ false → good (given (Err bad)) ≡ false) → good (given usable_input) ≡ good status
       → good (given (input_status status value calculated)) ≡ good status && (value && calculated)
   unfolding input_status
   good-by-input given b u = go (eqb (quality_of status) 3) refl (eqb (quality_of status) 0) refl value calculated
@@ -139,7 +140,7 @@ module _ (status : ℕ) (value calculated : Bool) where
       also passed g = g && passed
 
       go : (c : Bool) → eqb (quality_of status) 3 ≡ c → (z : Bool) → eqb (quality_of status) 0 ≡ z → (v k : Bool)
-          → good (given (cond c (Bad 0x04) (cond z (Bad status) (cond (not v) (Bad 0x10) (cond (not k) (Bad 0x04) UsableInput))))) ≡ good status && (v && k)
+          → good (given (cond c (Err 0x04) (cond z (Err status) (cond (not v) (Err 0x10) (cond (not k) (Err 0x04) usable_input))))) ≡ good status && (v && k)
       go true ec z ez v k = b 0x04 refl ∙ sym (ap (also (v && k)) (other-quality status 3 ec refl))
       go false ec true ez v k = let q : good status ≡ false = other-quality status 0 ez refl in b status q ∙ sym (ap (also (v && k)) q)
       go false ec false ez false k = b 0x10 refl ∙ sym (and-false (good status))
@@ -181,7 +182,7 @@ usable-excludes status finite_value = go (class_of status)
     go Neither h = refl
 
 -- An input after a usable telegram, after an IFS and after another, for any kind of value.
-module _ {A : Type 0} (status : ℕ) (finite_value : Bool) (value : A) (input : InputOf A) where
+module _ {A : Type 0} (status : ℕ) (finite_value : Bool) (value : A) (input : Setpoint A) where
   pub after-usable : usable status finite_value ≡ true
       → after_telegram status finite_value value input ≡ record { some = true; value = value; silence = 0; ifs = false }
   unfolding after_telegram
@@ -199,7 +200,6 @@ module _ {A : Type 0} (status : ℕ) (finite_value : Bool) (value : A) (input : 
 -- A refused telegram leaves the state as it was.
 pub refused-keeps : {S P : Type 0} (lacking : Bool) (take : P → S) (state : S) (received : Result P Refusal) (r : Refusal)
     → (telegram_by lacking take state received).answer ≡ Err r → (telegram_by lacking take state received).state ≡ state
-unfolding telegram_by
 refused-keeps true take state received r h = refl
 refused-keeps false take state (Err q) r h = refl
 refused-keeps false take state (Ok p) r h = let z : ◌≡◌ {A = ℕ} 0 1 = cc in absurd (omega arith)
@@ -207,7 +207,6 @@ refused-keeps false take state (Ok p) r h = let z : ◌≡◌ {A = ℕ} 0 1 = cc
 -- Whatever holds of the state before a telegram, and after each pair taken, holds after it.
 pub telegram-holds : {S P : Type 0} (H : S → Type 0) (lacking : Bool) (take : P → S) (state : S) (received : Result P Refusal) → H state
     → ((pair : P) → H (take pair)) → H (telegram_by lacking take state received).state
-unfolding telegram_by
 telegram-holds H true take state received h t = h
 telegram-holds H false take state (Err q) h t = h
 telegram-holds H false take state (Ok pair) h t = t pair
@@ -231,24 +230,24 @@ stopped-counts n = omega arith
 
 -- ---- the decision, for any kind of value
 
-module _ {A : Type 0} (time kind : ℕ) (fsafe_value : A) (input : InputOf A) where
+module _ {A : Type 0} (time kind : ℕ) (fsafe_value : A) (input : Setpoint A) where
   pub case-fail-safe : fail_safe_acts input.some input.silence input.ifs time ≡ true
       → case_of time kind fsafe_value input ≡ fail_safe_case kind fsafe_value input.some input.value
   unfolding case_of
   case-fail-safe h = rw h
 
-  pub case-following : fail_safe_acts input.some input.silence input.ifs time ≡ false → case_of time kind fsafe_value input ≡ following input.value
+  pub case-following : fail_safe_acts input.some input.silence input.ifs time ≡ false → case_of time kind fsafe_value input ≡ Following input.value
   unfolding case_of
   case-following h = rw h
 
 -- An input's value after a telegram: whatever holds of it before, and of the telegram's where that passes, holds after it.
-pub after-telegram-holds : {A : Type 0} (Q : A → Type 0) (status : ℕ) (finite_value : Bool) (value : A) (input : InputOf A)
+pub after-telegram-holds : {A : Type 0} (Q : A → Type 0) (status : ℕ) (finite_value : Bool) (value : A) (input : Setpoint A)
     → Q input.value → (finite_value ≡ true → Q value) → Q (after_telegram status finite_value value input).value
 unfolding after_telegram usable
 after-telegram-holds {A} Q status finite_value value input old new = go (eqb (class_number (class_of status)) 1) finite_value new (initiates status)
   where
     go : (a f : Bool) → (f ≡ true → Q value) → (i : Bool)
-        → Q (cond {A = InputOf A} (a && f) (record { some = true; value = value; silence = 0; ifs = false })
+        → Q (cond {A = Setpoint A} (a && f) (record { some = true; value = value; silence = 0; ifs = false })
         (cond i (record { some = input.some; value = input.value; silence = input.silence; ifs = true }) input)).value
     go true true new i = new refl
     go true false new true = old
@@ -259,12 +258,12 @@ after-telegram-holds {A} Q status finite_value value input old new = go (eqb (cl
 -- Whatever holds of old OUT and of all that scaling leads to, from FSAFE_VALUE and from the input's value, holds of the value that a case leads to. What is
 -- known of these two is Q.
 module _ {A O : Type 0} (Q : A → Type 0) (P : O → Type 0) (scaled : A → Option O) (old : O) (kept : P old)
-    (each : (w : A) → Q w → (out : O) → scaled w ≡ some out → P out) where
-  scaled-holds : (status : ℕ) (o : Option O) → ((out : O) → o ≡ some out → P out) → P (scaled_or old status o).value
-  scaled-holds status none h = kept
-  scaled-holds status (some out) h = h out refl
+    (each : (w : A) → Q w → (out : O) → scaled w ≡ Some out → P out) where
+  scaled-holds : (status : ℕ) (o : Option O) → ((out : O) → o ≡ Some out → P out) → P (scaled_or old status o).value
+  scaled-holds status None h = kept
+  scaled-holds status (Some out) h = h out refl
 
-  pub led-holds : (time kind : ℕ) (fsafe_value : A) (input : InputOf A) → Q fsafe_value → Q input.value
+  pub led-holds : (time kind : ℕ) (fsafe_value : A) (input : Setpoint A) → Q fsafe_value → Q input.value
       → P (leads_to scaled old (case_of time kind fsafe_value input)).value
   unfolding leads_to case_of fail_safe_case
   led-holds time kind fsafe_value input f v =
@@ -272,26 +271,26 @@ module _ {A O : Type 0} (Q : A → Type 0) (P : O → Type 0) (scaled : A → Op
     where
       go : (a b c d : Bool)
           → P (leads_to scaled old
-          (cond a (cond b (fallback fsafe_value) (cond c (cond d (held input.value) nothing_held) safety)) (following input.value))).value
+          (cond a (cond b (Fallback fsafe_value) (cond c (cond d (Held input.value) NothingHeld) Safety)) (Following input.value))).value
       go true true c d = scaled-holds 0x48 (scaled fsafe_value) (each fsafe_value f)
       go true false true true = scaled-holds 0x44 (scaled input.value) (each input.value v)
       go true false true false = kept
       go true false false d = kept
       go false b c d = scaled-holds 0x80 (scaled input.value) (each input.value v)
 
-pub given_holds : {O : Type 0} (P : O → Type 0) (mode : ℕ) (old operator : O) (operator_status : ℕ) (led : GivenOf O) → P old → P operator → P led.value
+pub given_holds : {O : Type 0} (P : O → Type 0) (mode : ℕ) (old operator : O) (operator_status : ℕ) (led : Given O) → P old → P operator → P led.value
     → P (by_mode mode old operator operator_status led).value
 unfolding by_mode
 given_holds P mode old operator operator_status led h o l = go (eqb mode 0x80) (eqb mode 0x10)
   where
-    go : (a b : Bool) → P (cond a (record { value = old; status = 0x1F; order = rest }) (cond b (positioned operator operator_status) led)).value
+    go : (a b : Bool) → P (cond a (record { value = old; status = 0x1F; order = Rest }) (cond b (positioned operator operator_status) led)).value
     go true b = h
     go false true = o
     go false false = l
 
 -- R15: in Auto and RCas, the actual mode being neither O/S nor Man, value, status and order are those of FSAFE_TYPE's case where fail-safe acts, and else
 -- those by the last usable telegram.
-module _ {A O : Type 0} (scaled : A → Option O) (old operator : O) (operator_status time kind : ℕ) (fsafe_value : A) (input : InputOf A) (mode : ℕ)
+module _ {A O : Type 0} (scaled : A → Option O) (old operator : O) (operator_status time kind : ℕ) (fsafe_value : A) (input : Setpoint A) (mode : ℕ)
     (in-service : eqb mode out_of_service ≡ false) (not-Man : eqb mode man ≡ false) where
   pub gives-fail-safe : fail_safe_acts input.some input.silence input.ifs time ≡ true
       → by_mode mode old operator operator_status (leads_to scaled old (case_of time kind fsafe_value input))
@@ -300,6 +299,6 @@ module _ {A O : Type 0} (scaled : A → Option O) (old operator : O) (operator_s
   gives-fail-safe h = rw (in-service, not-Man) (ap (leads_to scaled old) (case-fail-safe time kind fsafe_value input h))
 
   pub gives-following : fail_safe_acts input.some input.silence input.ifs time ≡ false
-      → by_mode mode old operator operator_status (leads_to scaled old (case_of time kind fsafe_value input)) ≡ leads_to scaled old (following input.value)
+      → by_mode mode old operator operator_status (leads_to scaled old (case_of time kind fsafe_value input)) ≡ leads_to scaled old (Following input.value)
   unfolding by_mode
   gives-following h = rw (in-service, not-Man) (ap (leads_to scaled old) (case-following time kind fsafe_value input h))

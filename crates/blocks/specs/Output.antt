@@ -4,6 +4,11 @@ use Rattle.std.specs.Prelude.{Bool, cond, Result, Ok, Err}
 use Rattle.wire.specs.declared.Refusal.{Refusal}
 use Rattle.wire.specs.Refusal.{granted, Answer, ground}
 
+-- the state after a tick, and the drive order, of any type O
+pub record TickedOf (S O : Type 0) : Type 0 where
+  pub state : S
+  pub order : O
+
 -- the state after a telegram, and the answer
 pub record TakenOf (S : Type 0) : Type 0 where
   pub state : S
@@ -19,5 +24,5 @@ received_by take state (Ok pair) = record { state = take pair; answer = granted 
 received_by take state (Err r) = refused_with state r
 
 -- F2, F9, F10: refused first for an input that the block lacks, as the flag says, then for its length
-unfoldable pub telegram_by : {S P : Type 0} → Bool → (P → S) → S → Result P Refusal → TakenOf S
+abbrev pub telegram_by : {S P : Type 0} → Bool → (P → S) → S → Result P Refusal → TakenOf S
 telegram_by lacking take state received = cond lacking (refused_with state (ground 8)) (received_by take state received)

@@ -1,12 +1,10 @@
 -- Orders, answers and readings as the numbers that cross to C: document 01, Calls on the device and Refused calls, and document 02,
 -- request 3. Assumes nothing.
-use Rattle.std.specs.Prelude.{ℕ, cond, eqb, Ok, Err, Result}
+use Rattle.std.specs.Prelude.{ℕ, Ok, Err, Result, Float}
 use Rattle.numbers.specs.Floats.{float_of}
 use Rattle.wire.specs.Refusal.{refusal_number}
-use Rattle.ao.specs.declared.Order.{Order}
-use Rattle.ao.specs.declared.Order.TheVariants.{Position, Safe, Rest}
-use Rattle.dout.specs.declared.Order.{Order as DiscreteOrder}
-use Rattle.dout.specs.declared.Order.TheVariants as Discrete
+use Rattle.blocks.specs.declared.setpoint.Order.{Order}
+use Rattle.blocks.specs.declared.setpoint.Order.TheVariants.{Position, Safe, Rest}
 use Rattle.device.specs.declared.Device.{Device}
 use Rattle.device.specs.Calls.{Ticked}
 use Rattle.device.specs.Read.{Reading}
@@ -22,16 +20,16 @@ abbrev pub version : ℕ
 version = 0x020000
 
 -- C4: the paper leaves the numbers of the kinds free; from 0 in its order
-abbrev pub order_numbers : Order → OrderNumbers
+abbrev pub order_numbers : Order Float → OrderNumbers
 order_numbers (Position x) = record { kind = 0; value = x }
 order_numbers Safe = record { kind = 1; value = float_of 0 }
 order_numbers Rest = record { kind = 2; value = float_of 0 }
 
 -- Q3.6: DO's, by the same numbers
-abbrev pub discrete_order_numbers : DiscreteOrder → DiscreteOrderNumbers
-discrete_order_numbers (Discrete.Position x) = record { kind = 0; value = x }
-discrete_order_numbers Discrete.Safe = record { kind = 1; value = 0 }
-discrete_order_numbers Discrete.Rest = record { kind = 2; value = 0 }
+abbrev pub discrete_order_numbers : Order ℕ → DiscreteOrderNumbers
+discrete_order_numbers (Position x) = record { kind = 0; value = x }
+discrete_order_numbers Safe = record { kind = 1; value = 0 }
+discrete_order_numbers Rest = record { kind = 2; value = 0 }
 
 -- C3, Q3.6: the orders of a tick
 abbrev pub orders_numbers : Ticked → OrdersNumbers

@@ -12,6 +12,7 @@ ghost use Rattle.device.specs.Calls.{write_of, tick_of, telegram_of, load_of, wa
 ghost use Rattle.packing.specs.Packed.{packed_of, pack_answer, pack_bytes, unpacked_of};
 ghost use Rattle.capi.specs.Numbers.{version, order_numbers, discrete_order_numbers, orders_numbers, reading_numbers, unpacked_number, unpacked_into};
 
+use blocks::setpoint::Order;
 use device::{Device, Orders};
 use parameters::Words;
 use wire::{Discrete, Pair, Refusal, answer_number};
@@ -49,17 +50,17 @@ pub struct ReadingNumbers {
     pub second: u32,
 }
 
-impl From<ao::Order> for OrderNumbers {
-    fn from(order: ao::Order) -> OrderNumbers
+impl From<Order<f32>> for OrderNumbers {
+    fn from(order: Order<f32>) -> OrderNumbers
         ensures { result ≡ order_numbers order }
     {
         match order {
-            ao::Order::Position(x) => OrderNumbers { kind: 0, value: x },
-            ao::Order::Safe => OrderNumbers {
+            Order::Position(x) => OrderNumbers { kind: 0, value: x },
+            Order::Safe => OrderNumbers {
                 kind: 1,
                 value: 0.0,
             },
-            ao::Order::Rest => OrderNumbers {
+            Order::Rest => OrderNumbers {
                 kind: 2,
                 value: 0.0,
             },
@@ -67,14 +68,14 @@ impl From<ao::Order> for OrderNumbers {
     }
 }
 
-impl From<dout::Order> for DiscreteOrderNumbers {
-    fn from(order: dout::Order) -> DiscreteOrderNumbers
+impl From<Order<u8>> for DiscreteOrderNumbers {
+    fn from(order: Order<u8>) -> DiscreteOrderNumbers
         ensures { result ≡ discrete_order_numbers order }
     {
         match order {
-            dout::Order::Position(x) => DiscreteOrderNumbers { kind: 0, value: x },
-            dout::Order::Safe => DiscreteOrderNumbers { kind: 1, value: 0 },
-            dout::Order::Rest => DiscreteOrderNumbers { kind: 2, value: 0 },
+            Order::Position(x) => DiscreteOrderNumbers { kind: 0, value: x },
+            Order::Safe => DiscreteOrderNumbers { kind: 1, value: 0 },
+            Order::Rest => DiscreteOrderNumbers { kind: 2, value: 0 },
         }
     }
 }

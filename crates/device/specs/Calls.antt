@@ -1,6 +1,6 @@
 -- The calls on a device, document 01, Calls on the device and Refused calls, and document 02, requests 1 and 3. A refused call leaves the device as it was.
 -- Assumes nothing.
-use Rattle.std.specs.Prelude.{ℕ, Bool, true, cond, List, ◌==◌, nat_lt, Result, Ok, Err}
+use Rattle.std.specs.Prelude.{ℕ, Bool, true, cond, List, ◌==◌, nat_lt, Result, Ok, Err, Float}
 use Rattle.wire.specs.declared.Pair.{Pair}
 use Rattle.wire.specs.declared.Discrete.{Discrete}
 use Rattle.wire.specs.Refusal.{granted, Answer}
@@ -12,13 +12,13 @@ use Rattle.ain.specs.Tick.{tick_of as ain_tick}
 use Rattle.ain.specs.State.{warm_started as ain_warm_started}
 use Rattle.tot.specs.Tick.{tick_of as tot_tick}
 use Rattle.tot.specs.State.{warm_started as tot_warm_started}
-use Rattle.ao.specs.declared.Taken.{Taken as AoTaken}
+use Rattle.ao.specs.declared.State.{State as AoState}
 use Rattle.ao.specs.Tick.{tick_of as ao_tick}
 use Rattle.ao.specs.State.{warm_started as ao_warm_started}
 use Rattle.ao.specs.Telegram.{telegram_of as ao_telegram}
 use Rattle.di.specs.Tick.{tick_of as di_tick}
 use Rattle.di.specs.State.{warm_started as di_warm_started}
-use Rattle.dout.specs.declared.Taken.{Taken as DoutTaken}
+use Rattle.dout.specs.declared.State.{State as DoutState}
 use Rattle.dout.specs.Tick.{tick_of as dout_tick}
 use Rattle.dout.specs.State.{warm_started as dout_warm_started}
 use Rattle.dout.specs.Telegram.{telegram_of as dout_telegram}
@@ -26,8 +26,8 @@ use Rattle.parameters.specs.declared.Standing.{Standing}
 use Rattle.parameters.specs.Refused.{ground}
 use Rattle.device.specs.declared.AinBlock.{AinBlock}
 use Rattle.device.specs.declared.Device.{Device}
-use Rattle.ao.specs.declared.Order.{Order}
-use Rattle.dout.specs.declared.Order.{Order as DiscreteOrder}
+use Rattle.blocks.specs.declared.setpoint.Order.{Order}
+use Rattle.blocks.specs.Output.{TakenOf}
 use Rattle.device.specs.Stored.{rev_after, stored_in}
 
 -- a call's answer, and the device after it
@@ -38,8 +38,8 @@ pub record Answered : Type 0 where
 -- a tick's drive orders, AO's and DO's, and the device after it
 pub record Ticked : Type 0 where
   pub device : Device
-  pub order : Order
-  pub order_d : DiscreteOrder
+  pub order : Order Float
+  pub order_d : Order ℕ
 
 -- what stands: WRITE_LOCKING, the targets, and whether a table is loaded
 abbrev pub standing_of : Device → Standing
@@ -99,7 +99,7 @@ tick_of d fault ain tot di = record {
 }
 
 -- what a telegram to AO leaves, and one to DO
-abbrev pub ao_heard : Device → AoTaken → Answered
+abbrev pub ao_heard : Device → TakenOf AoState → Answered
 ao_heard d taken = record {
   device = record {
     write_locking = d.write_locking;
@@ -112,7 +112,7 @@ ao_heard d taken = record {
   answer = taken.answer;
 }
 
-abbrev pub dout_heard : Device → DoutTaken → Answered
+abbrev pub dout_heard : Device → TakenOf DoutState → Answered
 dout_heard d taken = record {
   device = record {
     write_locking = d.write_locking;

@@ -15,8 +15,8 @@ use Rattle.dout.specs.declared.Settings.{Settings as DoutSettings}
 use Rattle.dout.specs.State.{fresh_state as fresh_dout}
 use Rattle.parameters.specs.declared.Words.{Words}
 use Rattle.parameters.specs.Table.{default_of}
+use Rattle.parameters.specs.Words.{scale_of}
 use Rattle.device.specs.declared.Device.{Device}
-use Rattle.device.specs.Stored.{scale_of}
 
 -- words for every block and number
 abbrev pub Valuation : Type 0

@@ -6,7 +6,7 @@ use Rattle.std.proofs.Common.{◌∙◌, subst, arith, eqb-true, eq-eqb, ne_eqb}
 use Rattle.std.specs.Float.Ieee.Fits.{and_l, and_r, and_i}
 use Rattle.wire.specs.declared.Pair.{Pair}
 use Rattle.wire.specs.declared.Discrete.{Discrete}
-use Rattle.wire.specs.Refusal.{granted, Answer}
+use Rattle.wire.specs.Refusal.{granted, Answer, ground as refusal}
 use Rattle.wire.specs.declared.Refusal.{Refusal}
 use Rattle.wire.specs.Bytes.{pair_of, discrete_of}
 use Rattle.blocks.specs.Laws.{refused-keeps}
@@ -23,10 +23,8 @@ use Rattle.dout.specs.Telegram as Dout
 use Rattle.parameters.specs.declared.Words.{Words}
 use Rattle.parameters.specs.declared.Class.TheVariants.{N}
 use Rattle.parameters.specs.declared.Allowed.TheVariants.{Lock}
-use Rattle.parameters.specs.declared.Entry.{Entry}
-use Rattle.parameters.specs.declared.Entry.TheVariants.{NoBlock, NoParameter, Parameter}
-use Rattle.parameters.specs.Table.{Row, words, physical, ain, tot, ao, di, dout, discrete, entry_in, entry_of, is_static}
-use Rattle.parameters.specs.Words.{allows_of}
+use Rattle.parameters.specs.Table.{Row, Entry, words, physical, ain, tot, ao, di, dout, discrete, entry_in, entry_of, is_static}
+use Rattle.parameters.specs.Words.{allows_of, code, float, ends}
 use Rattle.parameters.specs.Refused.{read_only, stored_entry, ground}
 use Rattle.parameters.specs.Laws.{by-block, no_block, by_rows, ◌also◌, takes, accepted-takes, shown_by, shown-back}
 use Rattle.device.specs.declared.AinBlock.{AinBlock}
@@ -39,7 +37,7 @@ use Rattle.device.specs.Calls.{Answered}
 use Rattle.device.specs.Read.{Reading}
 use Rattle.device.specs.Stored.{rev_after, ain_settings, tot_settings, ao_settings, di_settings, dout_settings}
 use Rattle.device.specs.Stored.{ain_written, tot_written, ao_written, di_written, dout_written, stored_in}
-use Rattle.device.specs.Read.{code, float, ends, ain_words, tot_words, ao_words, discrete_words, di_words, dout_words, words_of, read_by, read_of}
+use Rattle.device.specs.Read.{ain_words, tot_words, ao_words, discrete_words, di_words, dout_words, words_of, read_by, read_of}
 use Rattle.device.specs.Calls.{standing_of, write_by, write_of, tick_of, ao_heard, dout_heard, telegram_of, warm_started}
 
 -- what an accepted write moves of what reads give: the parameter written if it is stored, and its block's ST_REV if it is static
@@ -139,9 +137,8 @@ refused-telegram d input bytes r = go (nat_lt 1 input)
 -- ---- accepted writes
 
 taken-shown : (e : Entry) (a b : ℕ) → a < 2 ^ 32 → b < 2 ^ 32 → T (takes e a b) → shown_by e (words a b) ≡ words a b
-taken-shown NoBlock a b f g t = refl
-taken-shown NoParameter a b f g t = refl
-taken-shown (Parameter class allowed) a b f g t = shown-back (words a b) f g allowed (and_r (not (read_only class)) (allows_of allowed a b) t)
+taken-shown (Ok p) a b f g t = shown-back (words a b) f g p.allowed (and_r (not (read_only p.class)) (allows_of p.allowed a b) t)
+taken-shown (Err r) a b f g t = refl
 
 -- the parameter written
 stored-shown : (d : Device) (a b block number : ℕ) → T (stored_entry (entry_of block number))
@@ -163,9 +160,8 @@ stored-shown d a b =
 
 -- OUT, TOTAL and OUT_D: no read
 abbrev unstored : ℕ → Entry → Bool
-unstored number NoBlock = false
-unstored number NoParameter = false
-unstored number (Parameter class allowed) = not (read_only class) && not (stored_entry (Parameter class allowed))
+unstored number (Ok p) = not (read_only p.class) && not (stored_entry (Ok p))
+unstored number (Err r) = false
 
 outputs-still : (d : Device) (a b block' number' block number : ℕ) → T (unstored number (entry_of block number))
     → read_of (stored_in d block number a b) block' number' ≡ read_of d block' number'
@@ -232,8 +228,11 @@ module _ (number n : ℕ) (other : nat_eq number n ≡ false) where
     unfolding read_of words_of stored_in entry_of entry_in physical
     lock-kept d t = go (number == 18) refl (n == 18) refl t
       where
-        go : (p : Bool) → (number == 18) ≡ p → (q : Bool) → (n == 18) ≡ q → T (stored_entry (cond p (Parameter N Lock) NoParameter))
-            → read_by (code a) (cond q (Parameter N Lock) NoParameter) ≡ read_by (code d.write_locking) (cond q (Parameter N Lock) NoParameter)
+        lock : Entry
+        lock = Ok (record { class = N; allowed = Lock })
+
+        go : (p : Bool) → (number == 18) ≡ p → (q : Bool) → (n == 18) ≡ q → T (stored_entry (cond p lock (Err (refusal 2))))
+            → read_by (code a) (cond q lock (Err (refusal 2))) ≡ read_by (code d.write_locking) (cond q lock (Err (refusal 2)))
         go p e false f t = refl
         go false e true f t = absurd t
         go true e true f t = let z : true ≡ false = sym (eq-eqb number n (eqb-true number 18 e ∙ sym (eqb-true n 18 f))) ∙ other in cc
@@ -290,10 +289,9 @@ stored-counts d number a b rev =
     (λ block h f t e. absurd (subst (λ (x : Entry). T (takes x a b)) (no_block block number h) t))
 
 unstored-by : (e : Entry) (number a b : ℕ) → T (takes e a b) → stored_entry e ≡ false → T (unstored number e)
-unstored-by NoBlock number a b t f = t
-unstored-by NoParameter number a b t f = t
-unstored-by (Parameter class allowed) number a b t f =
-    and_i (not (read_only class)) (not (stored_entry (Parameter class allowed))) (and_l (not (read_only class)) (allows_of allowed a b) t)
+unstored-by (Err r) number a b t f = t
+unstored-by (Ok p) number a b t f =
+    and_i (not (read_only p.class)) (not (stored_entry (Ok p))) (and_l (not (read_only p.class)) (allows_of p.allowed a b) t)
     (subst (λ (x : Bool). T (not x)) (sym f) tt)
 
 stored-keeps : (d : Device) (block number a b block' number' : ℕ) → moves block number block' number' ≡ false → T (takes (entry_of block number) a b)

@@ -2,6 +2,7 @@
 pub mod Stored
 pub mod Factory
 pub mod Read
+pub mod Steps
 pub mod Calls
 pub mod Laws
 pub mod Blocks

@@ -2,9 +2,6 @@
 -- Assumes nothing.
 use Rattle.std.specs.Prelude.{ℕ, ◌+◌, ◌%◌, Bool, cond, ◌==◌}
 use Rattle.numbers.specs.Floats.{float_of}
-use Rattle.scaling.specs.declared.Scale.{Scale}
-use Rattle.wire.specs.declared.Pair.{Pair}
-use Rattle.wire.specs.declared.Discrete.{Discrete}
 use Rattle.blocks.specs.Common.{operator_after}
 use Rattle.ain.specs.declared.Settings.{Settings as AinSettings}
 use Rattle.ain.specs.State.{operated_state}
@@ -17,6 +14,7 @@ use Rattle.di.specs.State.{operated_state as operated_di}
 use Rattle.dout.specs.declared.Settings.{Settings as DoutSettings}
 use Rattle.dout.specs.State.{operated_by as operated_dout}
 use Rattle.parameters.specs.Table.{is_static}
+use Rattle.parameters.specs.Words.{scale_of, pair_of, discrete_pair}
 use Rattle.device.specs.declared.AinBlock.{AinBlock}
 use Rattle.device.specs.declared.TotBlock.{TotBlock}
 use Rattle.device.specs.declared.AoBlock.{AoBlock}
@@ -24,18 +22,7 @@ use Rattle.device.specs.declared.DiBlock.{DiBlock}
 use Rattle.device.specs.declared.DoutBlock.{DoutBlock}
 use Rattle.device.specs.declared.Device.{Device}
 
--- P8: words are stored as the floats whose bits they are, codes, ticks and a status as they are; a scale is two floats
-abbrev pub scale_of : ℕ → ℕ → Scale
-scale_of a b = record { low = float_of a; high = float_of b }
-
--- P11b: an output's words are a value's bits and a status; a status that is accepted is a byte
-abbrev pub pair_of : ℕ → ℕ → Pair
-pair_of a b = record { bits = a; status = b % 256 }
-
--- Q3.4b: OUT_D's words are a value and a status, each a byte if it is accepted
-abbrev pub discrete_pair : ℕ → ℕ → Discrete
-discrete_pair a b = record { value = a % 256; status = b % 256 }
-
+-- P8: each field by its parameter's words
 unfoldable pub ain_settings : AinSettings → ℕ → ℕ → ℕ → AinSettings
 ain_settings s number a b = record {
   target = cond (number == 5) a s.target;

@@ -2,23 +2,36 @@
 // (document 01, Calls on the device; document 02, requests 1 to 3).
 #![tactic(auto)]
 
-ghost use Rattle.std.specs.Prelude.{◌≡◌, ◌%◌, ◌≤◌};
+ghost use Rattle.std.specs.Prelude.{◌≡◌, ◌==◌, ◌%◌, ℕ, true};
 ghost use Rattle.wire.specs.Image.{image_answer, image_bytes, part_of, part_place};
-ghost use Rattle.parameters.specs.Table.{default_of};
-ghost use Rattle.device.specs.Factory.{ain_by, tot_by, ao_by, di_by, dout_by, factory_device};
-ghost use Rattle.device.specs.Stored.{ain_settings, tot_settings, ao_settings, di_settings, dout_settings, rev_after, pair_of, discrete_pair, entered_by};
-ghost use Rattle.device.specs.Stored.{ain_written, tot_written, ao_written, di_written, dout_written, stored_in};
-ghost use Rattle.device.specs.Read.{code, float, ends, given, given_d, alarm_byte, ain_words, tot_words, ao_words, di_words, dout_words, words_of, read_of};
+ghost use Rattle.blocks.specs.Common.{operator_after};
+ghost use Rattle.ain.specs.State.{operated_state as operated_ain};
+ghost use Rattle.tot.specs.State.{written_state};
 ghost use Rattle.ao.specs.Tick.{tick_of as ao_tick};
+ghost use Rattle.ao.specs.State.{operated_by as operated_ao};
+ghost use Rattle.di.specs.State.{operated_state as operated_di};
 ghost use Rattle.dout.specs.Tick.{tick_of as dout_tick};
+ghost use Rattle.dout.specs.State.{operated_by as operated_dout};
+ghost use Rattle.parameters.specs.Table.{is_static};
+ghost use Rattle.parameters.specs.Words.{pair_of, discrete_pair};
+ghost use Rattle.parameters.specs.declared.Words.{Words};
+ghost use Rattle.device.specs.declared.Head.{Head};
+ghost use Rattle.device.specs.Factory.{factory_device};
+ghost use Rattle.device.specs.Stored.{ain_settings, tot_settings, ao_settings, di_settings, dout_settings, rev_after};
+ghost use Rattle.device.specs.Stored.{ain_written, tot_written, ao_written, di_written, dout_written, stored_in};
+ghost use Rattle.device.specs.Steps.{head_of, ain_with, tot_with, ao_with, di_with, dout_with, in_steps};
+ghost use Rattle.device.specs.Steps.{ain-in-steps, tot-in-steps, ao-in-steps, di-in-steps, dout-in-steps};
+ghost use Rattle.device.specs.Steps.{ain-headed, tot-headed, ao-headed, di-headed, dout-headed};
+ghost use Rattle.device.specs.Read.{headed_words, ain_more, tot_more, ao_more, di_more, dout_more};
+ghost use Rattle.device.specs.Read.{alarm_byte, ain_words, tot_words, ao_words, di_words, dout_words, words_of, read_of};
 ghost use Rattle.device.specs.Blocks.{ain_ticked, tot_ticked, ao_ticked, di_ticked, dout_ticked};
 ghost use Rattle.device.specs.Calls.{standing_of, write_of, tick_of, telegram_of, tabled_by, load_of, warm_started};
 
 use ain::Alarms;
-use ao::Order;
+use blocks::setpoint::Order;
 use linearisation::Table;
-use numbers::floats::{bits_of, float_of};
-use parameters::{Entry, Standing, Words};
+use numbers::floats::float_of;
+use parameters::{Standing, Words};
 use scaling::Scale;
 use wire::{Discrete, Pair, Refusal};
 
@@ -77,85 +90,116 @@ pub struct Device {
 // The drive orders of a tick.
 #[derive(Clone, Copy)]
 pub struct Orders {
-    pub ao: Order,
-    pub dout: dout::Order,
+    pub ao: Order<f32>,
+    pub dout: Order<u8>,
 }
 
 // ---- factory
 
-fn default_ain() -> ain::Settings
-    ensures { result ≡ ain_by default_of }
-{
-    let scale = Scale {
-        low: 0.0,
-        high: 100.0,
-    };
-    ain::Settings {
-        target: blocks::AUTO,
-        pv_scale: scale,
-        out_scale: scale,
-        lin_type: 0,
-        pv_ftime: 0.0,
-        fsafe_type: 1,
-        fsafe_value: 0.0,
-        alarm_hys: 0.5,
-        hi_hi_lim: 1.0 / 0.0,
-        hi_lim: 1.0 / 0.0,
-        lo_lim: -1.0 / 0.0,
-        lo_lo_lim: -1.0 / 0.0,
+impl Default for AinBlock {
+    ghost is_default = { λ block. block ≡ factory_device.ain };
+
+    fn default() -> AinBlock {
+        let scale = Scale {
+            low: 0.0,
+            high: 100.0,
+        };
+        AinBlock {
+            settings: ain::Settings {
+                target: blocks::AUTO,
+                pv_scale: scale,
+                out_scale: scale,
+                lin_type: 0,
+                pv_ftime: 0.0,
+                fsafe_type: 1,
+                fsafe_value: 0.0,
+                alarm_hys: 0.5,
+                hi_hi_lim: 1.0 / 0.0,
+                hi_lim: 1.0 / 0.0,
+                lo_lim: -1.0 / 0.0,
+                lo_lo_lim: -1.0 / 0.0,
+            },
+            state: ain::State::fresh(),
+            st_rev: 0,
+            table: Table::default(),
+        }
     }
 }
 
-fn default_tot() -> tot::Settings
-    ensures { result ≡ tot_by default_of }
-{
-    tot::Settings {
-        target: blocks::AUTO,
-        set_tot: 0,
-        mode_tot: 0,
-        fail_tot: 0,
-        preset_tot: 0.0,
+impl Default for TotBlock {
+    ghost is_default = { λ block. block ≡ factory_device.tot };
+
+    fn default() -> TotBlock {
+        TotBlock {
+            settings: tot::Settings {
+                target: blocks::AUTO,
+                set_tot: 0,
+                mode_tot: 0,
+                fail_tot: 0,
+                preset_tot: 0.0,
+            },
+            state: tot::State::fresh(),
+            st_rev: 0,
+        }
     }
 }
 
-fn default_ao() -> ao::Settings
-    ensures { result ≡ ao_by default_of }
-{
-    let scale = Scale {
-        low: 0.0,
-        high: 100.0,
-    };
-    ao::Settings {
-        target: blocks::AUTO,
-        pv_scale: scale,
-        out_scale: scale,
-        fsafe_time: 0,
-        fsafe_type: 1,
-        fsafe_value: 0.0,
-        increase_close: 0,
+impl Default for AoBlock {
+    ghost is_default = { λ block. block ≡ factory_device.ao };
+
+    fn default() -> AoBlock {
+        let scale = Scale {
+            low: 0.0,
+            high: 100.0,
+        };
+        AoBlock {
+            settings: ao::Settings {
+                target: blocks::AUTO,
+                pv_scale: scale,
+                out_scale: scale,
+                fsafe_time: 0,
+                fsafe_type: 1,
+                fsafe_value: 0.0,
+                increase_close: 0,
+            },
+            state: ao::State::fresh(),
+            st_rev: 0,
+        }
     }
 }
 
-fn default_di() -> di::Settings
-    ensures { result ≡ di_by default_of }
-{
-    di::Settings {
-        target: blocks::AUTO,
-        invert: 0,
-        fsafe_type: 0,
-        fsafe_val_d: 0,
+impl Default for DiBlock {
+    ghost is_default = { λ block. block ≡ factory_device.di };
+
+    fn default() -> DiBlock {
+        DiBlock {
+            settings: di::Settings {
+                target: blocks::AUTO,
+                invert: 0,
+                fsafe_type: 0,
+                fsafe_val_d: 0,
+            },
+            state: di::State::fresh(),
+            st_rev: 0,
+        }
     }
 }
 
-fn default_dout() -> dout::Settings
-    ensures { result ≡ dout_by default_of }
-{
-    dout::Settings {
-        target: blocks::AUTO,
-        invert: 0,
-        fsafe_type: 0,
-        fsafe_val_d: 0,
-        fsafe_time: 0,
+impl Default for DoutBlock {
+    ghost is_default = { λ block. block ≡ factory_device.dout };
+
+    fn default() -> DoutBlock {
+        DoutBlock {
+            settings: dout::Settings {
+                target: blocks::AUTO,
+                invert: 0,
+                fsafe_type: 0,
+                fsafe_val_d: 0,
+                fsafe_time: 0,
+            },
+            state: dout::State::fresh(),
+            st_rev: 0,
+        }
     }
 }
 
@@ -165,308 +209,522 @@ impl Device {
     {
         Device {
             write_locking: 2457,
-            ain: AinBlock {
-                settings: default_ain(),
-                state: ain::fresh(),
-                st_rev: 0,
-                table: Table::default(),
-            },
-            tot: TotBlock {
-                settings: default_tot(),
-                state: tot::fresh(),
-                st_rev: 0,
-            },
-            ao: AoBlock {
-                settings: default_ao(),
-                state: ao::fresh(),
-                st_rev: 0,
-            },
-            di: DiBlock {
-                settings: default_di(),
-                state: di::fresh(),
-                st_rev: 0,
-            },
-            dout: DoutBlock {
-                settings: default_dout(),
-                state: dout::fresh(),
-                st_rev: 0,
-            },
+            ain: AinBlock::default(),
+            tot: TotBlock::default(),
+            ao: AoBlock::default(),
+            di: DiBlock::default(),
+            dout: DoutBlock::default(),
         }
     }
 }
 
-// ---- writes
+// ---- writes and reads of a block
 
-fn ain_settings(s: ain::Settings, parameter: u8, a: u32, b: u32) -> ain::Settings
-    ensures { result ≡ ain_settings s parameter a b }
-{
-    let x = float_of(a);
-    let y = float_of(b);
-    let scale = Scale { low: x, high: y };
-    let mut next = s;
-    match parameter {
-        5 => next.target = a,
-        11 => next.pv_scale = scale,
-        12 => next.out_scale = scale,
-        13 => next.lin_type = a,
-        16 => next.pv_ftime = x,
-        17 => next.fsafe_type = a,
-        18 => next.fsafe_value = x,
-        19 => next.alarm_hys = x,
-        21 => next.hi_hi_lim = x,
-        23 => next.hi_lim = x,
-        25 => next.lo_lim = x,
-        27 => next.lo_lo_lim = x,
-        _ => {}
+// What every block has: ST_REV, the target and the actual mode.
+#[derive(Clone, Copy)]
+struct Head {
+    st_rev: u16,
+    target: u32,
+    mode: u32,
+}
+
+// A block, as writes and reads know it: what all have alike is written once, and by two laws that is what the definitions
+// say of each block.
+trait Block {
+    ghost NUMBER: { ℕ };
+
+    const NUMBER: u8;
+
+    // The number of its output: OUT, TOTAL or OUT_D.
+    ghost OUTPUT: { ℕ };
+
+    const OUTPUT: u8;
+
+    ghost head: { Self → Head };
+
+    ghost set: { Self → ℕ → ℕ → ℕ → Self };
+
+    ghost operated: { Self → ℕ → ℕ → Self };
+
+    ghost entered: { Self → ℕ → ℕ → Self };
+
+    ghost counted: { Self → Self };
+
+    ghost more: { Self → ℕ → Words };
+
+    // A block after an accepted write, and what its parameters read as.
+    ghost after_write: { Self → ℕ → ℕ → ℕ → Self };
+
+    ghost reads: { Self → ℕ → Words };
+
+    fn head(&self) -> Head
+        ensures { result ≡ head self.now };
+
+    // Stores a parameter of the settings.
+    fn set(&mut self, parameter: u8, words: Words)
+        ensures { self.new ≡ set self.old parameter words.first words.second };
+
+    // A written output is the operator's.
+    fn operate(&mut self, words: Words)
+        ensures { self.new ≡ operated self.old words.first words.second };
+
+    // A write of the target: where it enters Man, the operator's pair is the one last given.
+    fn enter(&mut self, old: u32, new: u32)
+        ensures { self.new ≡ entered self.old old new };
+
+    // One static write more.
+    fn count(&mut self)
+        ensures { self.new ≡ counted self.old };
+
+    // The words of a parameter that not every block has.
+    fn more(&self, parameter: u8) -> Words
+        ensures { result ≡ more self.now parameter };
+
+    ghost write_in_steps: { (b : Self) (number first second : ℕ) → after_write b number first second
+        ≡ in_steps (operated b first second) (entered b (head b).target first) b (λ c. set c number first second) counted (number == OUTPUT)
+        (number == 5) (is_static NUMBER number) };
+
+    ghost reads_headed: { (b : Self) (number : ℕ) → reads b number
+        ≡ headed_words (head b).st_rev (head b).target (head b).mode (more b number) number };
+
+    // An accepted write.
+    final fn write(&mut self, parameter: u8, words: Words)
+        ensures { self.new ≡ after_write self.old parameter words.first words.second }
+    {
+        if parameter == Self::OUTPUT {
+            self.operate(words);
+        } else if parameter == 5 {
+            self.enter(self.head().target, words.first);
+        }
+        self.set(parameter, words);
+        if parameters::counts(Self::NUMBER, parameter) {
+            self.count();
+        }
     }
-    next
-}
 
-fn tot_settings(s: tot::Settings, parameter: u8, a: u32) -> tot::Settings
-    ensures { result ≡ tot_settings s parameter a }
-{
-    let x = float_of(a);
-    let mut next = s;
-    match parameter {
-        5 => next.target = a,
-        13 => next.set_tot = a,
-        14 => next.mode_tot = a,
-        15 => next.fail_tot = a,
-        16 => next.preset_tot = x,
-        _ => {}
-    }
-    next
-}
-
-fn ao_settings(s: ao::Settings, parameter: u8, a: u32, b: u32) -> ao::Settings
-    ensures { result ≡ ao_settings s parameter a b }
-{
-    let x = float_of(a);
-    let high = float_of(b);
-    let scale = Scale { low: x, high: high };
-    let mut next = s;
-    match parameter {
-        5 => next.target = a,
-        11 => next.pv_scale = scale,
-        38 => next.out_scale = scale,
-        23 => next.fsafe_time = a,
-        24 => next.fsafe_type = a,
-        25 => next.fsafe_value = x,
-        36 => next.increase_close = a,
-        _ => {}
-    }
-    next
-}
-
-fn di_settings(s: di::Settings, parameter: u8, a: u32) -> di::Settings
-    ensures { result ≡ di_settings s parameter a }
-{
-    let mut next = s;
-    match parameter {
-        5 => next.target = a,
-        15 => next.invert = a,
-        20 => next.fsafe_type = a,
-        21 => next.fsafe_val_d = a,
-        _ => {}
-    }
-    next
-}
-
-fn dout_settings(s: dout::Settings, parameter: u8, a: u32) -> dout::Settings
-    ensures { result ≡ dout_settings s parameter a }
-{
-    let mut after = s;
-    match parameter {
-        5 => after.target = a,
-        15 => after.invert = a,
-        20 => after.fsafe_type = a,
-        21 => after.fsafe_val_d = a,
-        22 => after.fsafe_time = a,
-        _ => {}
-    }
-    after
-}
-
-fn rev_after(counted: bool, rev: u16) -> u16
-    ensures { result ≡ rev_after counted rev }
-{
-    if counted {
-        return std::num::wrapping_add_u16(rev, 1);
-    }
-    rev
-}
-
-fn byte_of(b: u32) -> u8
-    ensures { result ≡ b % 256 }
-{
-    (b % 256) as u8
-}
-
-// The operator's pair of AIN or AO after a write of another parameter than OUT.
-fn entered(parameter: u8, a: u32, target: u32, given: Pair, operator: Pair) -> Pair
-    ensures { result ≡ entered_by parameter a target given operator }
-{
-    match parameter {
-        5 => blocks::operator_after(target, a, given, operator),
-        _ => operator,
+    final fn words(&self, parameter: u8) -> Words
+        ensures { result ≡ reads self.now parameter }
+    {
+        let head = self.head();
+        match parameter {
+            1 => Words::from(u32::from(head.st_rev)),
+            5 => Words::from(head.target),
+            6 => Words::from(head.mode),
+            _ => self.more(parameter),
+        }
     }
 }
 
-// The same of DI or DO.
-fn entered_d(parameter: u8, a: u32, target: u32, out: Discrete, kept: Discrete) -> Discrete
-    ensures { result ≡ entered_by parameter a target out kept }
-{
-    match parameter {
-        5 => blocks::operator_after_d(target, a, out, kept),
-        _ => kept,
+#[tactic(auto, unfolding(crate::specs::Stored::ain_settings, crate::specs::Stored::rev_after))]
+impl Block for AinBlock {
+    ghost NUMBER = { 1 };
+
+    const NUMBER: u8 = 1;
+
+    ghost OUTPUT = { 10 };
+
+    const OUTPUT: u8 = 10;
+
+    ghost head = { λ b. head_of b.st_rev b.settings.target b.state.mode };
+
+    ghost set = { λ b number first second. ain_with b (ain_settings b.settings number first second) b.state b.st_rev };
+
+    ghost operated = { λ b first second. ain_with b b.settings (operated_ain b.state (pair_of first second)) b.st_rev };
+
+    ghost entered = { λ b old new. ain_with b b.settings (operated_ain b.state (operator_after old new b.state.out b.state.operator)) b.st_rev };
+
+    ghost counted = { λ b. ain_with b b.settings b.state (rev_after true b.st_rev) };
+
+    ghost more = { ain_more };
+
+    ghost after_write = { ain_written };
+
+    ghost reads = { ain_words };
+
+    fn head(&self) -> Head {
+        Head {
+            st_rev: self.st_rev,
+            target: self.settings.target,
+            mode: self.state.mode,
+        }
     }
+
+    fn set(&mut self, parameter: u8, words: Words) {
+        match parameter {
+            5 => self.settings.target = words.first,
+            11 => self.settings.pv_scale = Scale::from(words),
+            12 => self.settings.out_scale = Scale::from(words),
+            13 => self.settings.lin_type = words.first,
+            16 => self.settings.pv_ftime = float_of(words.first),
+            17 => self.settings.fsafe_type = words.first,
+            18 => self.settings.fsafe_value = float_of(words.first),
+            19 => self.settings.alarm_hys = float_of(words.first),
+            21 => self.settings.hi_hi_lim = float_of(words.first),
+            23 => self.settings.hi_lim = float_of(words.first),
+            25 => self.settings.lo_lim = float_of(words.first),
+            27 => self.settings.lo_lo_lim = float_of(words.first),
+            _ => {}
+        }
+    }
+
+    fn operate(&mut self, out: Words) {
+        self.state.operate(Pair::from(out));
+    }
+
+    fn enter(&mut self, old: u32, new: u32) {
+        let pair = blocks::operator_after(old, new, self.state.out, self.state.operator);
+        self.state.operate(pair);
+    }
+
+    fn count(&mut self) {
+        self.st_rev = self.st_rev.wrapping_add(1);
+    }
+
+    fn more(&self, parameter: u8) -> Words {
+        match parameter {
+            7 => Words::from(alarm_byte(self.state.alarms)),
+            10 => Words::from(self.state.out),
+            11 => Words::from(self.settings.pv_scale),
+            12 => Words::from(self.settings.out_scale),
+            13 => Words::from(self.settings.lin_type),
+            16 => Words::from(self.settings.pv_ftime),
+            17 => Words::from(self.settings.fsafe_type),
+            18 => Words::from(self.settings.fsafe_value),
+            19 => Words::from(self.settings.alarm_hys),
+            21 => Words::from(self.settings.hi_hi_lim),
+            23 => Words::from(self.settings.hi_lim),
+            25 => Words::from(self.settings.lo_lim),
+            27 => Words::from(self.settings.lo_lo_lim),
+            _ => Words::from(0),
+        }
+    }
+
+    ghost write_in_steps = { λ b number first second. ain-in-steps number first second b };
+
+    ghost reads_headed = { ain-headed };
 }
 
-fn pair_of(a: u32, b: u32) -> Pair
-    ensures { result ≡ pair_of a b }
-{
-    let status = byte_of(b);
-    Pair {
-        bits: a,
-        status: status,
+#[tactic(auto, unfolding(crate::specs::Stored::tot_settings, crate::specs::Stored::rev_after))]
+impl Block for TotBlock {
+    ghost NUMBER = { 2 };
+
+    const NUMBER: u8 = 2;
+
+    ghost OUTPUT = { 10 };
+
+    const OUTPUT: u8 = 10;
+
+    ghost head = { λ b. head_of b.st_rev b.settings.target b.state.mode };
+
+    ghost set = { λ b number first second. tot_with (tot_settings b.settings number first) b.state b.st_rev };
+
+    ghost operated = { λ b first second. tot_with b.settings (written_state b.state first (second % 256)) b.st_rev };
+
+    ghost entered = { λ b old new. b };
+
+    ghost counted = { λ b. tot_with b.settings b.state (rev_after true b.st_rev) };
+
+    ghost more = { tot_more };
+
+    ghost after_write = { tot_written };
+
+    ghost reads = { tot_words };
+
+    fn head(&self) -> Head {
+        Head {
+            st_rev: self.st_rev,
+            target: self.settings.target,
+            mode: self.state.mode,
+        }
     }
+
+    fn set(&mut self, parameter: u8, words: Words) {
+        match parameter {
+            5 => self.settings.target = words.first,
+            13 => self.settings.set_tot = words.first,
+            14 => self.settings.mode_tot = words.first,
+            15 => self.settings.fail_tot = words.first,
+            16 => self.settings.preset_tot = float_of(words.first),
+            _ => {}
+        }
+    }
+
+    fn operate(&mut self, total: Words) {
+        self.state.operate(Pair::from(total));
+    }
+
+    fn enter(&mut self, _: u32, _: u32) {}
+
+    fn count(&mut self) {
+        self.st_rev = self.st_rev.wrapping_add(1);
+    }
+
+    fn more(&self, parameter: u8) -> Words {
+        match parameter {
+            10 => Words::from(self.state.out),
+            13 => Words::from(self.settings.set_tot),
+            14 => Words::from(self.settings.mode_tot),
+            15 => Words::from(self.settings.fail_tot),
+            16 => Words::from(self.settings.preset_tot),
+            _ => Words::from(0),
+        }
+    }
+
+    ghost write_in_steps = { λ b number first second. tot-in-steps number first second b };
+
+    ghost reads_headed = { tot-headed };
 }
 
-fn discrete_pair(a: u32, b: u32) -> Discrete
-    ensures { result ≡ discrete_pair a b }
-{
-    let value = byte_of(a);
-    let status = byte_of(b);
-    Discrete {
-        value: value,
-        status: status,
+#[tactic(auto, unfolding(crate::specs::Stored::ao_settings, crate::specs::Stored::rev_after))]
+impl Block for AoBlock {
+    ghost NUMBER = { 3 };
+
+    const NUMBER: u8 = 3;
+
+    ghost OUTPUT = { 37 };
+
+    const OUTPUT: u8 = 37;
+
+    ghost head = { λ b. head_of b.st_rev b.settings.target b.state.mode };
+
+    ghost set = { λ b number first second. ao_with (ao_settings b.settings number first second) b.state b.st_rev };
+
+    ghost operated = { λ b first second. ao_with b.settings (operated_ao b.state (pair_of first second)) b.st_rev };
+
+    ghost entered = { λ b old new. ao_with b.settings (operated_ao b.state (operator_after old new b.state.out b.state.operator)) b.st_rev };
+
+    ghost counted = { λ b. ao_with b.settings b.state (rev_after true b.st_rev) };
+
+    ghost more = { ao_more };
+
+    ghost after_write = { ao_written };
+
+    ghost reads = { ao_words };
+
+    fn head(&self) -> Head {
+        Head {
+            st_rev: self.st_rev,
+            target: self.settings.target,
+            mode: self.state.mode,
+        }
     }
+
+    fn set(&mut self, parameter: u8, words: Words) {
+        match parameter {
+            5 => self.settings.target = words.first,
+            11 => self.settings.pv_scale = Scale::from(words),
+            38 => self.settings.out_scale = Scale::from(words),
+            23 => self.settings.fsafe_time = words.first,
+            24 => self.settings.fsafe_type = words.first,
+            25 => self.settings.fsafe_value = float_of(words.first),
+            36 => self.settings.increase_close = words.first,
+            _ => {}
+        }
+    }
+
+    fn operate(&mut self, words: Words) {
+        self.state.operate(Pair::from(words));
+    }
+
+    fn enter(&mut self, old: u32, new: u32) {
+        let pair = blocks::operator_after(old, new, self.state.out, self.state.operator);
+        self.state.operate(pair);
+    }
+
+    fn count(&mut self) {
+        self.st_rev = self.st_rev.wrapping_add(1);
+    }
+
+    fn more(&self, parameter: u8) -> Words {
+        match parameter {
+            11 => Words::from(self.settings.pv_scale),
+            23 => Words::from(self.settings.fsafe_time),
+            24 => Words::from(self.settings.fsafe_type),
+            25 => Words::from(self.settings.fsafe_value),
+            36 => Words::from(self.settings.increase_close),
+            37 => Words::from(self.state.out),
+            38 => Words::from(self.settings.out_scale),
+            _ => Words::from(0),
+        }
+    }
+
+    ghost write_in_steps = { λ b number first second. ao-in-steps number first second b };
+
+    ghost reads_headed = { ao-headed };
 }
 
-fn ain_written(block: AinBlock, parameter: u8, a: u32, b: u32) -> AinBlock
-    ensures { result ≡ ain_written block parameter a b }
-{
-    let counted = parameters::counts(1, parameter);
-    let rev = rev_after(counted, block.st_rev);
-    let settings = ain_settings(block.settings, parameter, a, b);
-    let old = block.state;
-    let written = pair_of(a, b);
-    let taken = entered(parameter, a, block.settings.target, old.out, old.operator);
-    let with_written = ain::operated(old, written);
-    let with_taken = ain::operated(old, taken);
-    let mut next = block;
-    next.settings = settings;
-    next.state = with_taken;
-    next.st_rev = rev;
-    match parameter {
-        10 => next.state = with_written,
-        _ => {}
+#[tactic(auto, unfolding(crate::specs::Stored::di_settings, crate::specs::Stored::rev_after, crate::specs::Read::discrete_words))]
+impl Block for DiBlock {
+    ghost NUMBER = { 4 };
+
+    const NUMBER: u8 = 4;
+
+    ghost OUTPUT = { 10 };
+
+    const OUTPUT: u8 = 10;
+
+    ghost head = { λ b. head_of b.st_rev b.settings.target b.state.mode };
+
+    ghost set = { λ b number first second. di_with (di_settings b.settings number first) b.state b.st_rev };
+
+    ghost operated = { λ b first second. di_with b.settings (operated_di b.state (discrete_pair first second)) b.st_rev };
+
+    ghost entered = { λ b old new. di_with b.settings (operated_di b.state (operator_after old new b.state.out b.state.operator)) b.st_rev };
+
+    ghost counted = { λ b. di_with b.settings b.state (rev_after true b.st_rev) };
+
+    ghost more = { di_more };
+
+    ghost after_write = { di_written };
+
+    ghost reads = { di_words };
+
+    fn head(&self) -> Head {
+        Head {
+            st_rev: self.st_rev,
+            target: self.settings.target,
+            mode: self.state.mode,
+        }
     }
-    next
+
+    fn set(&mut self, parameter: u8, words: Words) {
+        match parameter {
+            5 => self.settings.target = words.first,
+            15 => self.settings.invert = words.first,
+            20 => self.settings.fsafe_type = words.first,
+            21 => self.settings.fsafe_val_d = words.first,
+            _ => {}
+        }
+    }
+
+    fn operate(&mut self, out_d: Words) {
+        self.state.operate(Discrete::from(out_d));
+    }
+
+    fn enter(&mut self, old: u32, new: u32) {
+        let pair = blocks::operator_after(old, new, self.state.out, self.state.operator);
+        self.state.operate(pair);
+    }
+
+    fn count(&mut self) {
+        self.st_rev = self.st_rev.wrapping_add(1);
+    }
+
+    fn more(&self, parameter: u8) -> Words {
+        match parameter {
+            10 => Words::from(self.state.out),
+            15 => Words::from(self.settings.invert),
+            20 => Words::from(self.settings.fsafe_type),
+            21 => Words::from(self.settings.fsafe_val_d),
+            _ => Words::from(0),
+        }
+    }
+
+    ghost write_in_steps = { λ b number first second. di-in-steps number first second b };
+
+    ghost reads_headed = { di-headed };
 }
 
-fn tot_written(block: TotBlock, parameter: u8, a: u32, b: u32) -> TotBlock
-    ensures { result ≡ tot_written block parameter a b }
-{
-    let counted = parameters::counts(2, parameter);
-    let rev = rev_after(counted, block.st_rev);
-    let settings = tot_settings(block.settings, parameter, a);
-    let status = byte_of(b);
-    let old = block.state;
-    let written = tot::written(old, a, status);
-    match parameter {
-        10 => TotBlock {
-            settings: settings,
-            state: written,
-            st_rev: rev,
-        },
-        _ => TotBlock {
-            settings: settings,
-            state: old,
-            st_rev: rev,
-        },
+#[tactic(auto, unfolding(crate::specs::Stored::dout_settings, crate::specs::Stored::rev_after, crate::specs::Read::discrete_words))]
+impl Block for DoutBlock {
+    ghost NUMBER = { 5 };
+
+    const NUMBER: u8 = 5;
+
+    ghost OUTPUT = { 10 };
+
+    const OUTPUT: u8 = 10;
+
+    ghost head = { λ b. head_of b.st_rev b.settings.target b.state.mode };
+
+    ghost set = { λ b number first second. dout_with (dout_settings b.settings number first) b.state b.st_rev };
+
+    ghost operated = { λ b first second. dout_with b.settings (operated_dout b.state (discrete_pair first second)) b.st_rev };
+
+    ghost entered = { λ b old new. dout_with b.settings (operated_dout b.state (operator_after old new b.state.out b.state.operator)) b.st_rev };
+
+    ghost counted = { λ b. dout_with b.settings b.state (rev_after true b.st_rev) };
+
+    ghost more = { dout_more };
+
+    ghost after_write = { dout_written };
+
+    ghost reads = { dout_words };
+
+    fn head(&self) -> Head {
+        Head {
+            st_rev: self.st_rev,
+            target: self.settings.target,
+            mode: self.state.mode,
+        }
     }
+
+    fn set(&mut self, parameter: u8, words: Words) {
+        match parameter {
+            5 => self.settings.target = words.first,
+            15 => self.settings.invert = words.first,
+            20 => self.settings.fsafe_type = words.first,
+            21 => self.settings.fsafe_val_d = words.first,
+            22 => self.settings.fsafe_time = words.first,
+            _ => {}
+        }
+    }
+
+    fn operate(&mut self, words: Words) {
+        self.state.operate(Discrete::from(words));
+    }
+
+    fn enter(&mut self, old: u32, new: u32) {
+        let pair = blocks::operator_after(old, new, self.state.out, self.state.operator);
+        self.state.operate(pair);
+    }
+
+    fn count(&mut self) {
+        self.st_rev = self.st_rev.wrapping_add(1);
+    }
+
+    fn more(&self, parameter: u8) -> Words {
+        match parameter {
+            10 => Words::from(self.state.out),
+            15 => Words::from(self.settings.invert),
+            20 => Words::from(self.settings.fsafe_type),
+            21 => Words::from(self.settings.fsafe_val_d),
+            22 => Words::from(self.settings.fsafe_time),
+            _ => Words::from(0),
+        }
+    }
+
+    ghost write_in_steps = { λ b number first second. dout-in-steps number first second b };
+
+    ghost reads_headed = { dout-headed };
 }
 
-fn ao_written(block: AoBlock, parameter: u8, a: u32, b: u32) -> AoBlock
-    ensures { result ≡ ao_written block parameter a b }
+// An alarm byte: the bit of each alarm that stands.
+#[tactic(auto, unfolding(crate::specs::Read::alarm_byte))]
+fn alarm_byte(alarms: Alarms) -> u32
+    ensures { result ≡ alarm_byte alarms }
 {
-    let counted = parameters::counts(3, parameter);
-    let rev = rev_after(counted, block.st_rev);
-    let settings = ao_settings(block.settings, parameter, a, b);
-    let old = block.state;
-    let written = pair_of(a, b);
-    let taken = entered(parameter, a, block.settings.target, old.out, old.operator);
-    let with_written = ao::operated(old, written);
-    let with_taken = ao::operated(old, taken);
-    let mut next = block;
-    next.settings = settings;
-    next.state = with_taken;
-    next.st_rev = rev;
-    match parameter {
-        37 => next.state = with_written,
-        _ => {}
-    }
-    next
+    u32::from(alarms.hi_hi)
+        + 2 * u32::from(alarms.hi)
+        + 4 * u32::from(alarms.lo)
+        + 8 * u32::from(alarms.lo_lo)
 }
 
-fn di_written(block: DiBlock, parameter: u8, a: u32, b: u32) -> DiBlock
-    ensures { result ≡ di_written block parameter a b }
-{
-    let counted = parameters::counts(4, parameter);
-    let rev = rev_after(counted, block.st_rev);
-    let settings = di_settings(block.settings, parameter, a);
-    let old = block.state;
-    let written = discrete_pair(a, b);
-    let taken = entered_d(parameter, a, block.settings.target, old.out, old.operator);
-    let di_with_written = di::operated(old, written);
-    let di_with_taken = di::operated(old, taken);
-    let mut next = block;
-    next.settings = settings;
-    next.state = di_with_taken;
-    next.st_rev = rev;
-    match parameter {
-        10 => next.state = di_with_written,
-        _ => {}
-    }
-    next
-}
-
-fn dout_written(block: DoutBlock, parameter: u8, a: u32, b: u32) -> DoutBlock
-    ensures { result ≡ dout_written block parameter a b }
-{
-    let counted = parameters::counts(5, parameter);
-    let rev = rev_after(counted, block.st_rev);
-    let settings = dout_settings(block.settings, parameter, a);
-    let old = block.state;
-    let written = discrete_pair(a, b);
-    let taken = entered_d(parameter, a, block.settings.target, old.out, old.operator);
-    let dout_with_written = dout::operated(old, written);
-    let dout_with_taken = dout::operated(old, taken);
-    let mut next = block;
-    next.settings = settings;
-    next.state = dout_with_taken;
-    next.st_rev = rev;
-    match parameter {
-        10 => next.state = dout_with_written,
-        _ => {}
-    }
-    next
-}
+// ---- writes and reads
 
 impl Device {
     // An accepted write.
     #[tactic(auto, unfolding(crate::specs::Stored::stored_in))]
-    fn store(&mut self, block: u8, parameter: u8, a: u32, b: u32)
-        ensures { self.new ≡ stored_in self.old block parameter a b }
+    fn store(&mut self, block: u8, parameter: u8, words: Words)
+        ensures { self.new ≡ stored_in self.old block parameter words.first words.second }
     {
         match block {
-            0 => self.write_locking = a,
-            1 => self.ain = ain_written(self.ain, parameter, a, b),
-            2 => self.tot = tot_written(self.tot, parameter, a, b),
-            3 => self.ao = ao_written(self.ao, parameter, a, b),
-            4 => self.di = di_written(self.di, parameter, a, b),
-            5 => self.dout = dout_written(self.dout, parameter, a, b),
+            0 => self.write_locking = words.first,
+            1 => self.ain.write(parameter, words),
+            2 => self.tot.write(parameter, words),
+            3 => self.ao.write(parameter, words),
+            4 => self.di.write(parameter, words),
+            5 => self.dout.write(parameter, words),
             _ => {}
         }
     }
@@ -490,192 +748,35 @@ impl Device {
         ensures answer { result ≡ (write_of self.old block parameter a b).answer }
         ensures device { self.new ≡ (write_of self.old block parameter a b).device }
     {
-        parameters::answer_to(self.standing(), block, parameter, a, b)?;
-        self.store(block, parameter, a, b);
+        let words = Words {
+            first: a,
+            second: b,
+        };
+        self.standing().answer_to(block, parameter, words)?;
+        self.store(block, parameter, words);
         Ok(())
     }
-}
 
-// ---- reads
-
-fn code_words(n: u32) -> Words
-    ensures { result ≡ code n }
-{
-    Words {
-        first: n,
-        second: 0,
+    #[tactic(auto, unfolding(crate::specs::Read::words_of))]
+    fn words(&self, block: u8, parameter: u8) -> Words
+        ensures { result ≡ words_of self.now block parameter }
+    {
+        match block {
+            0 => Words::from(self.write_locking),
+            1 => self.ain.words(parameter),
+            2 => self.tot.words(parameter),
+            3 => self.ao.words(parameter),
+            4 => self.di.words(parameter),
+            _ => self.dout.words(parameter),
+        }
     }
-}
 
-fn float_words(x: f32) -> Words
-    ensures { result ≡ float x }
-{
-    Words {
-        first: bits_of(x),
-        second: 0,
-    }
-}
-
-fn scale_words(scale: Scale) -> Words
-    ensures { result ≡ ends scale }
-{
-    Words {
-        first: bits_of(scale.low),
-        second: bits_of(scale.high),
-    }
-}
-
-fn pair_words(pair: Pair) -> Words
-    ensures { result ≡ given pair }
-{
-    Words {
-        first: pair.bits,
-        second: pair.status as u32,
-    }
-}
-
-fn discrete_words(pair: Discrete) -> Words
-    ensures { result ≡ given_d pair }
-{
-    Words {
-        first: pair.value as u32,
-        second: pair.status as u32,
-    }
-}
-
-fn bit(b: bool) -> u32
-    ensures value { result ≡ Rattle.device.specs.Read.bit b }
-    ensures upper_bound { result ≤ 1 }
-{
-    if b {
-        return 1;
-    }
-    0
-}
-
-fn alarm_byte(a: Alarms) -> u32
-    ensures { result ≡ alarm_byte a }
-{
-    let hi_hi = bit(a.hi_hi);
-    let hi = bit(a.hi);
-    let lo = bit(a.lo);
-    let lo_lo = bit(a.lo_lo);
-    hi_hi + 2 * hi + 4 * lo + 8 * lo_lo
-}
-
-fn ain_words(b: AinBlock, parameter: u8) -> Words
-    ensures { result ≡ ain_words b parameter }
-{
-    match parameter {
-        1 => code_words(b.st_rev as u32),
-        5 => code_words(b.settings.target),
-        6 => code_words(b.state.mode),
-        7 => code_words(alarm_byte(b.state.alarms)),
-        10 => pair_words(b.state.out),
-        11 => scale_words(b.settings.pv_scale),
-        12 => scale_words(b.settings.out_scale),
-        13 => code_words(b.settings.lin_type),
-        16 => float_words(b.settings.pv_ftime),
-        17 => code_words(b.settings.fsafe_type),
-        18 => float_words(b.settings.fsafe_value),
-        19 => float_words(b.settings.alarm_hys),
-        21 => float_words(b.settings.hi_hi_lim),
-        23 => float_words(b.settings.hi_lim),
-        25 => float_words(b.settings.lo_lim),
-        27 => float_words(b.settings.lo_lo_lim),
-        _ => code_words(0),
-    }
-}
-
-fn tot_words(b: TotBlock, parameter: u8) -> Words
-    ensures { result ≡ tot_words b parameter }
-{
-    match parameter {
-        1 => code_words(b.st_rev as u32),
-        5 => code_words(b.settings.target),
-        6 => code_words(b.state.mode),
-        10 => pair_words(b.state.out),
-        13 => code_words(b.settings.set_tot),
-        14 => code_words(b.settings.mode_tot),
-        15 => code_words(b.settings.fail_tot),
-        16 => float_words(b.settings.preset_tot),
-        _ => code_words(0),
-    }
-}
-
-fn ao_words(b: AoBlock, parameter: u8) -> Words
-    ensures { result ≡ ao_words b parameter }
-{
-    match parameter {
-        1 => code_words(b.st_rev as u32),
-        5 => code_words(b.settings.target),
-        6 => code_words(b.state.mode),
-        11 => scale_words(b.settings.pv_scale),
-        23 => code_words(b.settings.fsafe_time),
-        24 => code_words(b.settings.fsafe_type),
-        25 => float_words(b.settings.fsafe_value),
-        36 => code_words(b.settings.increase_close),
-        37 => pair_words(b.state.out),
-        38 => scale_words(b.settings.out_scale),
-        _ => code_words(0),
-    }
-}
-
-fn di_words(b: DiBlock, parameter: u8) -> Words
-    ensures { result ≡ di_words b parameter }
-{
-    match parameter {
-        1 => code_words(b.st_rev as u32),
-        5 => code_words(b.settings.target),
-        6 => code_words(b.state.mode),
-        10 => discrete_words(b.state.out),
-        15 => code_words(b.settings.invert),
-        20 => code_words(b.settings.fsafe_type),
-        21 => code_words(b.settings.fsafe_val_d),
-        _ => code_words(0),
-    }
-}
-
-fn dout_words(b: DoutBlock, parameter: u8) -> Words
-    ensures { result ≡ dout_words b parameter }
-{
-    match parameter {
-        1 => code_words(b.st_rev as u32),
-        5 => code_words(b.settings.target),
-        6 => code_words(b.state.mode),
-        10 => discrete_words(b.state.out),
-        15 => code_words(b.settings.invert),
-        20 => code_words(b.settings.fsafe_type),
-        21 => code_words(b.settings.fsafe_val_d),
-        22 => code_words(b.settings.fsafe_time),
-        _ => code_words(0),
-    }
-}
-
-#[tactic(auto, unfolding(crate::specs::Read::words_of))]
-fn words_of(d: &Device, block: u8, parameter: u8) -> Words
-    ensures { result ≡ words_of d.now block parameter }
-{
-    match block {
-        0 => code_words(d.write_locking),
-        1 => ain_words(d.ain, parameter),
-        2 => tot_words(d.tot, parameter),
-        3 => ao_words(d.ao, parameter),
-        4 => di_words(d.di, parameter),
-        _ => dout_words(d.dout, parameter),
-    }
-}
-
-impl Device {
     #[tactic(auto, unfolding(crate::specs::Read::read_of))]
     pub fn read(&self, block: u8, parameter: u8) -> Result<Words, Refusal>
         ensures { result ≡ read_of self.now block parameter }
     {
-        match parameters::entry_of(block, parameter) {
-            Entry::NoBlock => Err(Refusal::NoSuchBlock),
-            Entry::NoParameter => Err(Refusal::NoSuchParameter),
-            Entry::Parameter(_, _) => Ok(words_of(self, block, parameter)),
-        }
+        parameters::entry_of(block, parameter)?;
+        Ok(self.words(block, parameter))
     }
 }
 
@@ -685,21 +786,14 @@ impl AinBlock {
     fn tick(&mut self, fault: bool, input: Pair)
         ensures { self.new ≡ ain_ticked self.old fault input }
     {
-        self.state = ain::tick(
-            self.settings,
-            self.table,
-            self.state,
-            fault,
-            input.bits,
-            input.status,
-        );
+        self.state.tick(&self.settings, &self.table, fault, input);
     }
 
     // Another table: one static write more.
     fn load(&mut self, table: Table)
         ensures { self.new ≡ tabled_by self.old table }
     {
-        self.st_rev = rev_after(true, self.st_rev);
+        self.count();
         self.table = table;
     }
 }
@@ -708,18 +802,16 @@ impl TotBlock {
     fn tick(&mut self, fault: bool, input: Pair)
         ensures { self.new ≡ tot_ticked self.old fault input }
     {
-        self.state = tot::tick(self.settings, self.state, fault, input.bits, input.status);
+        self.state.tick(&self.settings, fault, input);
     }
 }
 
 impl AoBlock {
-    fn tick(&mut self, fault: bool) -> Order
+    fn tick(&mut self, fault: bool) -> Order<f32>
         ensures order { result ≡ (ao_tick self.old.settings self.old.state fault).order }
         ensures block { self.new ≡ ao_ticked self.old fault }
     {
-        let ticked = ao::tick(self.settings, self.state, fault);
-        self.state = ticked.state;
-        ticked.order
+        self.state.tick(&self.settings, fault)
     }
 }
 
@@ -727,18 +819,16 @@ impl DiBlock {
     fn tick(&mut self, fault: bool, input: Discrete)
         ensures { self.new ≡ di_ticked self.old fault input }
     {
-        self.state = di::tick(self.settings, self.state, fault, input.value, input.status);
+        self.state.tick(&self.settings, fault, input);
     }
 }
 
 impl DoutBlock {
-    fn tick(&mut self, fault: bool) -> dout::Order
+    fn tick(&mut self, fault: bool) -> Order<u8>
         ensures order { result ≡ (dout_tick self.old.settings self.old.state fault).order }
         ensures block { self.new ≡ dout_ticked self.old fault }
     {
-        let ticked = dout::tick(self.settings, self.state, fault);
-        self.state = ticked.state;
-        ticked.order
+        self.state.tick(&self.settings, fault)
     }
 }
 
@@ -766,13 +856,9 @@ impl Device {
         ensures device { self.new ≡ (telegram_of self.old input bytes.now).device }
     {
         if input > 1 {
-            let taken = dout::telegram(self.dout.state, input, bytes);
-            self.dout.state = taken.state;
-            return taken.answer;
+            return self.dout.state.telegram(input, bytes);
         }
-        let taken = ao::telegram(self.ao.state, input, bytes);
-        self.ao.state = taken.state;
-        taken.answer
+        self.ao.state.telegram(input, bytes)
     }
 
     // Loads a linearisation table for AIN, eight bytes to a pair.
@@ -792,11 +878,11 @@ impl Device {
     pub fn warm_start(&mut self)
         ensures { self.new ≡ warm_started self.old }
     {
-        self.ain.state = ain::warm_start(self.ain.state);
-        self.tot.state = tot::warm_start(self.tot.state);
-        self.ao.state = ao::warm_start(self.ao.state);
-        self.di.state = di::warm_start(self.di.state);
-        self.dout.state = dout::warm_start(self.dout.state);
+        self.ain.state.warm_start();
+        self.tot.state.warm_start();
+        self.ao.state.warm_start();
+        self.di.state.warm_start();
+        self.dout.state.warm_start();
     }
 
     // The blocks' values and statuses as last given, into the front of a buffer.

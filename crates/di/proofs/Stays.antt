@@ -1,10 +1,9 @@
 -- Laws of DI's tick: OUT_D stays 0 or 1. They stand here and not in specs/, so that an edit of the definition of fail-safe is judged by the contracts.
 -- Assumes nothing.
-use Rattle.std.specs.Prelude.{ℕ, ◌≡◌, Bool}
+use Rattle.std.specs.Prelude.{ℕ, ◌≡◌, Bool, Err}
 use Rattle.std.proofs.Math.Path.{refl}
 use Rattle.std.proofs.Math.Bool.{true}
-use Rattle.blocks.specs.declared.Input.TheVariants.{Usable, Bad}
-use Rattle.blocks.specs.Common.{actual_mode}
+use Rattle.blocks.specs.Common.{usable_input, actual_mode}
 use Rattle.blocks.specs.Discrete.{is_discrete, inverted}
 use Rattle.blocks.specs.Laws.{Discrete, inverted-discrete, value-discrete, mode-holds, present-holds, fail-safe-holds}
 use Rattle.blocks.specs.Laws.{input-holds}
@@ -19,7 +18,7 @@ pub record DiscreteStore (st : State) : Type 0 where
   pub operator : Discrete st.operator.value
 
 module _ (s : Settings) (st : State) (h : DiscreteStore st) (mode value status : ℕ) where
-  unusable-stays : (bad : ℕ) → DiscreteStore (auto_by s st mode value status (Bad bad))
+  unusable-stays : (bad : ℕ) → DiscreteStore (auto_by s st mode value status (Err bad))
   unfolding auto_by unusable_tick fail_safe_out
   unusable-stays bad = record {
     last = h.last;
@@ -30,7 +29,7 @@ module _ (s : Settings) (st : State) (h : DiscreteStore st) (mode value status :
     operator = h.operator;
   }
 
-  usable-stays : Discrete value → DiscreteStore (auto_by s st mode value status Usable)
+  usable-stays : Discrete value → DiscreteStore (auto_by s st mode value status usable_input)
   unfolding auto_by usable_tick
   usable-stays d = record {
     last = λ e. inverted-discrete s.invert value d;

@@ -1,9 +1,7 @@
 -- DI's tick, document 02, request 3, by document 01, AIN tick and Mode (Q3.8a). Assumes nothing.
-use Rattle.std.specs.Prelude.{ℕ, Bool, true}
+use Rattle.std.specs.Prelude.{ℕ, Bool, true, Ok, Err}
 use Rattle.wire.specs.declared.Discrete.{Discrete}
-use Rattle.blocks.specs.declared.Input.{Input}
-use Rattle.blocks.specs.declared.Input.TheVariants.{Usable, Bad}
-use Rattle.blocks.specs.Common.{as_discrete, out_of_service, man, actual_mode, in_mode, held_out_d, input_status}
+use Rattle.blocks.specs.Common.{as_discrete, out_of_service, man, actual_mode, in_mode, held_out_d, InputStatus, input_status}
 use Rattle.blocks.specs.Discrete.{is_discrete, inverted, discrete_value}
 use Rattle.blocks.specs.InputBlock.{present, fail_safe_pair}
 use Rattle.di.specs.declared.Settings.{Settings}
@@ -12,7 +10,7 @@ use Rattle.di.specs.declared.State.{State}
 use Rattle.di.specs.Kept.{kept_value}
 
 -- Q3.4b, A5: the input status of a tick: after the qualities another value than 0 or 1 is 0x04, and never 0x10
-unfoldable pub input_of : ℕ → ℕ → Input
+unfoldable pub input_of : ℕ → ℕ → InputStatus
 input_of value status = input_status status true (is_discrete value)
 
 -- Q3.4b, Q3.5, A8: OUT_D of an Auto tick that isn't usable: what fail-safe gives. INVERT acts on the transducer's value, which counts if it is 0 or 1, and
@@ -42,9 +40,9 @@ unusable_tick s st mode value bad = record {
 }
 
 -- A6: an Auto tick by its input status
-unfoldable pub auto_by : Settings → State → ℕ → ℕ → ℕ → Input → State
-auto_by s st mode value status Usable = usable_tick s st mode value status
-auto_by s st mode value status (Bad bad) = unusable_tick s st mode value bad
+unfoldable pub auto_by : Settings → State → ℕ → ℕ → ℕ → InputStatus → State
+auto_by s st mode value status (Ok u) = usable_tick s st mode value status
+auto_by s st mode value status (Err bad) = unusable_tick s st mode value bad
 
 unfoldable pub auto_tick : Settings → State → ℕ → ℕ → ℕ → State
 unfolding auto_by

@@ -3,11 +3,12 @@
 #![tactic(auto)]
 
 ghost use Rattle.std.specs.Prelude.{◌≡◌};
-ghost use Rattle.di.specs.Kept.{no_value};
+ghost use Rattle.blocks.specs.InputBlock.{present};
+ghost use Rattle.di.specs.Kept.{as_kept};
 ghost use Rattle.di.specs.Tick.{fail_safe_out, usable_tick, unusable_tick, auto_tick, man_tick, out_of_service_tick, tick_of};
 ghost use Rattle.di.specs.State.{fresh_state, operated_state, warm_started};
 
-use blocks::Input;
+use blocks::PairOf;
 use wire::Discrete;
 
 // The stored parameters.
@@ -20,7 +21,7 @@ pub struct Settings {
     pub fsafe_val_d: u32,
 }
 
-// A value that may be missing; while it is, the value is 0.
+// A value that may be missing, as a device holds it: C knows no Option. While it is missing, the value is 0.
 #[repr(C)]
 #[derive(Clone, Copy)]
 pub struct Kept {
@@ -41,180 +42,130 @@ pub struct State {
     pub operator: Discrete,
 }
 
-fn nothing() -> Kept
-    ensures { result ≡ no_value }
-{
-    Kept {
-        some: false,
-        value: 0,
-    }
-}
-
-// OUT_D of an Auto tick that is not usable, whatever the transducer's value is.
-fn fail_safe(s: Settings, last: Kept, value: u8, old: Discrete, bad: u8) -> Discrete
-    ensures { result ≡ fail_safe_out s last value old bad }
-{
-    let kind = s.fsafe_type;
-    let by_value = kind == 0;
-    let by_last = kind == 1;
-    if by_value {
-        return Discrete {
-            value: blocks::discrete_value(s.fsafe_val_d),
-            status: 0x48,
-        };
-    }
-    if by_last {
-        if last.some {
-            return Discrete {
-                value: last.value,
-                status: 0x44,
-            };
+impl From<Option<u8>> for Kept {
+    fn from(value: Option<u8>) -> Kept
+        ensures { result ≡ as_kept value }
+    {
+        match value {
+            Some(value) => Kept { some: true, value },
+            None => Kept {
+                some: false,
+                value: 0,
+            },
         }
-        return Discrete {
-            value: 0,
-            status: 0x4c,
+    }
+}
+
+impl From<Kept> for Option<u8> {
+    fn from(kept: Kept) -> Option<u8>
+        ensures { result ≡ present kept.some kept.value }
+    {
+        kept.some.then_some(kept.value)
+    }
+}
+
+impl Settings {
+    // OUT_D of an Auto tick that is not usable.
+    #[tactic(auto, unfolding(crate::specs::Tick::fail_safe_out))]
+    fn fail_safe(&self, last: Kept, value: u8, old: Discrete, bad: u8) -> Discrete
+        ensures { result ≡ fail_safe_out self.now last value old bad }
+    {
+        let pair = blocks::fail_safe_pair(
+            self.fsafe_type,
+            blocks::discrete_value(self.fsafe_val_d),
+            Option::<u8>::from(last),
+            blocks::is_discrete(value).then_some(blocks::inverted(self.invert, value)),
+            old.value,
+            bad,
+        );
+        Discrete::from(pair)
+    }
+}
+
+// As AIN's, without a filter and alarms: two, as the states that C holds are two types.
+impl State {
+    pub fn fresh() -> State
+        ensures { result ≡ fresh_state }
+    {
+        State {
+            out: Discrete::from(PairOf::held(0)),
+            mode: blocks::OUT_OF_SERVICE,
+            last: Kept::from(None),
+            operator: Discrete::from(PairOf::fresh()),
+        }
+    }
+
+    // The block's tick: the fault flag, and the transducer's value with its status.
+    #[tactic(auto, unfolding(crate::specs::Tick::tick_of, crate::specs::Tick::tick_by))]
+    pub fn tick(&mut self, settings: &Settings, fault: bool, input: Discrete)
+        ensures { self.new ≡ tick_of settings.now self.old fault input.value input.status }
+    {
+        match blocks::actual_mode(fault, settings.target) {
+            blocks::OUT_OF_SERVICE => self.tick_out_of_service(),
+            blocks::MAN => self.tick_man(),
+            mode => self.tick_auto(settings, mode, input),
+        }
+    }
+
+    #[tactic(auto, unfolding(crate::specs::Tick::out_of_service_tick))]
+    fn tick_out_of_service(&mut self)
+        ensures { self.new ≡ out_of_service_tick self.old }
+    {
+        self.out = Discrete::from(PairOf::held(self.out.value));
+        self.mode = blocks::OUT_OF_SERVICE;
+    }
+
+    #[tactic(auto, unfolding(crate::specs::Tick::man_tick))]
+    fn tick_man(&mut self)
+        ensures { self.new ≡ man_tick self.old }
+    {
+        self.out = self.operator;
+        self.mode = blocks::MAN;
+    }
+
+    #[tactic(auto, unfolding(crate::specs::Tick::auto_tick, crate::specs::Tick::input_of))]
+    fn tick_auto(&mut self, settings: &Settings, mode: u32, input: Discrete)
+        ensures { self.new ≡ auto_tick settings.now self.old mode input.value input.status }
+    {
+        let value = input.value;
+        match blocks::input_status(input.status, true, blocks::is_discrete(value)) {
+            Ok(()) => self.tick_usable(settings, mode, value, input.status),
+            Err(bad) => self.tick_unusable(settings, mode, value, bad),
+        }
+    }
+
+    #[tactic(auto, unfolding(crate::specs::Tick::usable_tick))]
+    fn tick_usable(&mut self, settings: &Settings, mode: u32, value: u8, status: u8)
+        ensures { self.new ≡ usable_tick settings.now self.old mode value status }
+    {
+        let value = blocks::inverted(settings.invert, value);
+        self.out = Discrete { value, status };
+        self.mode = mode;
+        self.last = Kept::from(Some(value));
+    }
+
+    #[tactic(auto, unfolding(crate::specs::Tick::unusable_tick))]
+    fn tick_unusable(&mut self, settings: &Settings, mode: u32, value: u8, bad: u8)
+        ensures { self.new ≡ unusable_tick settings.now self.old mode value bad }
+    {
+        self.out = settings.fail_safe(self.last, value, self.out, bad);
+        self.mode = mode;
+    }
+
+    // The operator's pair is taken for Man ticks; OUT_D shows it only then.
+    pub fn operate(&mut self, pair: Discrete)
+        ensures { self.new ≡ operated_state self.old pair }
+    {
+        self.operator = pair;
+    }
+
+    pub fn warm_start(&mut self)
+        ensures { self.new ≡ warm_started self.old }
+    {
+        let out = Discrete::from(PairOf::held(self.out.value));
+        *self = State {
+            out,
+            ..State::fresh()
         };
-    }
-    if blocks::is_discrete(value) {
-        return Discrete {
-            value: blocks::inverted(s.invert, value),
-            status: bad,
-        };
-    }
-    Discrete {
-        value: old.value,
-        status: bad,
-    }
-}
-
-fn usable_tick(s: Settings, st: State, mode: u32, value: u8, status: u8) -> State
-    ensures { result ≡ usable_tick s st mode value status }
-{
-    let given = blocks::inverted(s.invert, value);
-    let operator = st.operator;
-    State {
-        out: Discrete {
-            value: given,
-            status: status,
-        },
-        mode: mode,
-        last: Kept {
-            some: true,
-            value: given,
-        },
-        operator: operator,
-    }
-}
-
-fn unusable_tick(s: Settings, st: State, mode: u32, value: u8, bad: u8) -> State
-    ensures { result ≡ unusable_tick s st mode value bad }
-{
-    let given = fail_safe(s, st.last, value, st.out, bad);
-    let last = st.last;
-    let operator = st.operator;
-    State {
-        out: given,
-        mode: mode,
-        last: last,
-        operator: operator,
-    }
-}
-
-fn auto_tick(s: Settings, st: State, mode: u32, value: u8, status: u8) -> State
-    ensures { result ≡ auto_tick s st mode value status }
-{
-    let discrete = blocks::is_discrete(value);
-    let input = blocks::input_status(status, true, discrete);
-    match input {
-        Input::Usable => usable_tick(s, st, mode, value, status),
-        Input::Bad(bad) => unusable_tick(s, st, mode, value, bad),
-    }
-}
-
-fn man_tick(st: State) -> State
-    ensures { result ≡ man_tick st }
-{
-    let operator = st.operator;
-    let last = st.last;
-    State {
-        out: operator,
-        mode: blocks::MAN,
-        last: last,
-        operator: operator,
-    }
-}
-
-fn out_of_service_tick(st: State) -> State
-    ensures { result ≡ out_of_service_tick st }
-{
-    let out = blocks::held_d(st.out);
-    let last = st.last;
-    let operator = st.operator;
-    State {
-        out: out,
-        mode: blocks::OUT_OF_SERVICE,
-        last: last,
-        operator: operator,
-    }
-}
-
-// The block's tick: the fault flag, and the transducer's value with its status.
-pub fn tick(s: Settings, st: State, fault: bool, value: u8, status: u8) -> State
-    ensures { result ≡ tick_of s st fault value status }
-{
-    let mode = blocks::actual_mode(fault, s.target);
-    let off = mode == blocks::OUT_OF_SERVICE;
-    let man = mode == blocks::MAN;
-    if off {
-        return out_of_service_tick(st);
-    }
-    if man {
-        return man_tick(st);
-    }
-    auto_tick(s, st, mode, value, status)
-}
-
-pub fn fresh() -> State
-    ensures { result ≡ fresh_state }
-{
-    let out = Discrete {
-        value: 0,
-        status: blocks::HELD_STATUS,
-    };
-    let none = nothing();
-    let operator = blocks::fresh_operator_d();
-    State {
-        out: out,
-        mode: blocks::OUT_OF_SERVICE,
-        last: none,
-        operator: operator,
-    }
-}
-
-// The operator's pair is taken for Man ticks; OUT_D shows it only then.
-pub fn operated(st: State, pair: Discrete) -> State
-    ensures { result ≡ operated_state st pair }
-{
-    let out = st.out;
-    let last = st.last;
-    State {
-        out: out,
-        mode: st.mode,
-        last: last,
-        operator: pair,
-    }
-}
-
-pub fn warm_start(st: State) -> State
-    ensures { result ≡ warm_started st }
-{
-    let out = blocks::held_d(st.out);
-    let no_value = nothing();
-    let fresh_operator = blocks::fresh_operator_d();
-    State {
-        out: out,
-        mode: blocks::OUT_OF_SERVICE,
-        last: no_value,
-        operator: fresh_operator,
     }
 }

@@ -1,7 +1,6 @@
 -- Laws of DO: that OUT_D stays 0 or 1. What AO and DO have in common is in `blocks`. Assumes nothing.
-use Rattle.std.specs.Prelude.{ℕ, ◌≡◌, Bool, cond, List, eqb}
+use Rattle.std.specs.Prelude.{ℕ, ◌≡◌, Bool, cond, List, eqb, Some}
 use Rattle.std.proofs.Common.{subst}
-use Rattle.std.proofs.Math.Option.{some}
 use Rattle.std.proofs.Math.Bool.{true, false}
 use Rattle.wire.specs.declared.Discrete.{Discrete as Pair}
 use Rattle.wire.specs.Bytes.{discrete_of}
@@ -24,7 +23,7 @@ pub record DiscreteStore (state : State) : Type 0 where
   pub rcas_in : Discrete state.rcas_in.value
 
 module _ (s : Settings) (state : State) (h : DiscreteStore state) where
-  led : (w : ℕ) → Discrete w → (out : ℕ) → out_of s.invert w ≡ some out → Discrete out
+  led : (w : ℕ) → Discrete w → (out : ℕ) → out_of s.invert w ≡ Some out → Discrete out
   led w d out e = let z : inverted s.invert w ≡ out = cc in subst Discrete z (inverted-discrete s.invert w d)
 
   used : (mode : ℕ) → Discrete (input_used state mode).value

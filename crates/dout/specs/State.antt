@@ -2,15 +2,16 @@
 use Rattle.std.specs.Prelude.{ℕ}
 use Rattle.wire.specs.declared.Discrete.{Discrete}
 use Rattle.blocks.specs.Common.{as_discrete, held_at, out_of_service, fresh_operator_d}
-use Rattle.blocks.specs.FailSafe.{InputOf, emptied}
+use Rattle.blocks.specs.declared.setpoint.Setpoint.{Setpoint}
+use Rattle.blocks.specs.FailSafe.{emptied}
 use Rattle.dout.specs.declared.Input.{Input}
 use Rattle.dout.specs.declared.State.{State}
 
 -- an input as the rules have it, and as the state holds it
-abbrev pub input_of : Input → InputOf ℕ
+abbrev pub input_of : Input → Setpoint ℕ
 input_of i = record { some = i.some; value = i.value; silence = i.silence; ifs = i.ifs }
 
-abbrev pub input_from : InputOf ℕ → Input
+abbrev pub input_from : Setpoint ℕ → Input
 input_from i = record { some = i.some; value = i.value; silence = i.silence; ifs = i.ifs }
 
 -- no usable telegram and no IFS came since start

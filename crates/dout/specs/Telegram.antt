@@ -7,7 +7,6 @@ use Rattle.blocks.specs.FailSafe.{after_telegram}
 use Rattle.blocks.specs.Output.{TakenOf, telegram_by}
 use Rattle.dout.specs.declared.Input.{Input}
 use Rattle.dout.specs.declared.State.{State}
-use Rattle.dout.specs.declared.Taken.{Taken}
 use Rattle.dout.specs.State.{input_of, input_from}
 
 -- Q3.4b, O1: an input after a telegram on it: another value than 0 or 1 stands where AO has one that isn't finite. INVERT has no part in what is kept
@@ -21,14 +20,10 @@ taken_on state input pair =
     (record { out = state.out; mode = state.mode; operator = state.operator; sp = input_after state.sp pair; rcas_in = state.rcas_in })
     (record { out = state.out; mode = state.mode; operator = state.operator; sp = state.sp; rcas_in = input_after state.rcas_in pair })
 
--- a state with the answer, as the rules have it and as the code does
-abbrev pub taken_from : TakenOf State → Taken
-taken_from t = record { state = t.state; answer = t.answer }
-
 -- Q3.7: the inputs that DO lacks: all but 2 and 3
 abbrev pub lacking : ℕ → Bool
 lacking input = not (eqb input 2 || eqb input 3)
 
 -- Q3.8a, F2, F9, F10: refused as AO's are, with two bytes for five
-unfoldable pub telegram_of : State → ℕ → List ℕ → Taken
-telegram_of state input bytes = taken_from (telegram_by (lacking input) (taken_on state input) state (discrete_of bytes))
+unfoldable pub telegram_of : State → ℕ → List ℕ → TakenOf State
+telegram_of state input bytes = telegram_by (lacking input) (taken_on state input) state (discrete_of bytes)

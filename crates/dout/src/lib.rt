@@ -1,15 +1,15 @@
 // DO, the discrete output block (document 02, request 3, by document 01, AO tick): setpoint telegrams on two inputs,
-// fail-safe, INVERT, and the order that drives the sluice.
+// fail-safe, INVERT, and the order that drives the sluice. What AO has too is in `blocks`, over the kind of value; here is
+// DO's own, and its structs, which C holds and which therefore are not generic.
 #![tactic(auto)]
 
 ghost use Rattle.std.specs.Prelude.{◌≡◌};
-ghost use Rattle.blocks.specs.FailSafe.{fail_safe_case, positioned};
-ghost use Rattle.dout.specs.State.{fresh_state, started, warm_started, operated_by, no_telegrams};
-ghost use Rattle.dout.specs.Telegram.{input_after, taken_on, telegram_of};
-ghost use Rattle.dout.specs.Tick.{given_by, case_by, input_used, given_in, input_after_tick, tick_of};
-ghost use Rattle.dout.specs.Code.{rule_case, given_of};
+ghost use Rattle.dout.specs.State.{input_of, input_from, fresh_state, started, warm_started, operated_by};
+ghost use Rattle.dout.specs.Telegram.{input_after, telegram_of};
+ghost use Rattle.dout.specs.Tick.{fail_safe_of, scaled_of, given_in, input_after_tick, tick_of};
 
-use blocks::Class;
+use blocks::PairOf;
+use blocks::setpoint::{Drive, FailSafe, Given, Order, Setpoint};
 use wire::{Discrete, Refusal};
 
 // The stored parameters that the tick goes by.
@@ -23,8 +23,7 @@ pub struct Settings {
     pub fsafe_time: u32,
 }
 
-// A setpoint input: whether a usable telegram came since start, the value of the last one (0 while there is none), the
-// ticks since (up to 65,536; 0 while there is none), and whether an IFS came with no usable one after it.
+// A setpoint input, by the fields of a Setpoint.
 #[repr(C)]
 #[derive(Clone, Copy)]
 pub struct Input {
@@ -45,311 +44,167 @@ pub struct State {
     pub rcas_in: Input,
 }
 
-// The drive order.
-#[derive(Clone, Copy)]
-pub enum Order {
-    Position(u8),
-    Safe,
-    Rest,
-}
+// ---- a setpoint input
 
-#[derive(Clone, Copy)]
-pub struct Taken {
-    pub state: State,
-    pub answer: Result<(), Refusal>,
-}
-
-#[derive(Clone, Copy)]
-pub struct Ticked {
-    pub state: State,
-    pub order: Order,
-}
-
-// What decides value, status and order in Auto and RCas: the last usable setpoint; by FSAFE_TYPE FSAFE_VAL_D, the last
-// usable setpoint or none, or the safe position.
-#[derive(Clone, Copy)]
-enum Case {
-    Following(u8),
-    Fallback(u8),
-    Held(u8),
-    NothingHeld,
-    Safety,
-}
-
-// What a tick gives.
-#[derive(Clone, Copy)]
-struct Given {
-    out: Discrete,
-    order: Order,
-}
-
-// ---- start and operator
-
-fn no_telegrams() -> Input
-    ensures { result ≡ no_telegrams }
-{
-    Input {
-        some: false,
-        value: 0,
-        silence: 0,
-        ifs: false,
-    }
-}
-
-fn start(value: u8) -> State
-    ensures { result ≡ started value }
-{
-    let sp = no_telegrams();
-    let rcas_in = no_telegrams();
-    let operator = blocks::fresh_operator_d();
-    State {
-        out: Discrete {
-            value,
-            status: blocks::HELD_STATUS,
-        },
-        mode: blocks::OUT_OF_SERVICE,
-        operator,
-        sp,
-        rcas_in,
-    }
-}
-
-pub fn fresh() -> State
-    ensures { result ≡ fresh_state }
-{
-    start(0)
-}
-
-pub fn warm_start(state: State) -> State
-    ensures { result ≡ warm_started state }
-{
-    start(state.out.value)
-}
-
-// An accepted write of OUT_D.
-pub fn operated(state: State, pair: Discrete) -> State
-    ensures { result ≡ operated_by state pair }
-{
-    let given = state.out;
-    let sp = state.sp;
-    let rcas_in = state.rcas_in;
-    State {
-        out: given,
-        mode: state.mode,
-        operator: pair,
-        sp,
-        rcas_in,
-    }
-}
-
-// ---- telegrams
-
-// The input after a telegram on it.
-fn heard(input: Input, pair: Discrete) -> Input
-    ensures { result ≡ input_after input pair }
-{
-    let discrete = blocks::is_discrete(pair.value);
-    let class = blocks::class_of(pair.status);
-    match class {
-        Class::Usable => {
-            if discrete {
-                return Input {
-                    some: true,
-                    value: pair.value,
-                    silence: 0,
-                    ifs: false,
-                };
-            }
-            input
-        }
-        Class::InitiateFailSafe => Input {
+impl From<Input> for Setpoint<u8> {
+    fn from(input: Input) -> Setpoint<u8>
+        ensures { result ≡ input_of input }
+    {
+        Setpoint {
             some: input.some,
             value: input.value,
             silence: input.silence,
-            ifs: true,
-        },
-        Class::Neither => input,
-    }
-}
-
-// The state after a telegram on the input 2 (SP_D) or another (RCAS_IN_D).
-fn taken_on(state: State, input: u8, pair: Discrete) -> State
-    ensures { result ≡ taken_on state input pair }
-{
-    let out = state.out;
-    let operator = state.operator;
-    let sp = state.sp;
-    let rcas_in = state.rcas_in;
-    let first = input == 2;
-    if first {
-        let sp = heard(sp, pair);
-        return State {
-            out,
-            mode: state.mode,
-            operator,
-            sp,
-            rcas_in,
-        };
-    }
-    let rcas_in = heard(rcas_in, pair);
-    State {
-        out,
-        mode: state.mode,
-        operator,
-        sp,
-        rcas_in,
-    }
-}
-
-pub fn telegram(state: State, input: u8, bytes: &[u8]) -> Taken
-    ensures { result ≡ telegram_of state input bytes.now }
-{
-    let unknown = !((input == 2) | (input == 3));
-    if unknown {
-        return Taken {
-            state,
-            answer: Err(Refusal::NoSuchInput),
-        };
-    }
-    match Discrete::try_from(bytes) {
-        Ok(pair) => Taken {
-            state: taken_on(state, input, pair),
-            answer: Ok(()),
-        },
-        Err(refusal) => Taken {
-            state,
-            answer: Err(refusal),
-        },
-    }
-}
-
-// ---- the decision
-
-fn fail_safe_case(kind: u32, fsafe_value: u8, some: bool, last: u8) -> Case
-    ensures { rule_case result ≡ fail_safe_case kind fsafe_value some last }
-{
-    let zero = kind == 0;
-    if zero {
-        return Case::Fallback(fsafe_value);
-    }
-    let one = kind == 1;
-    if one {
-        if some {
-            return Case::Held(last);
+            ifs: input.ifs,
         }
-        return Case::NothingHeld;
-    }
-    Case::Safety
-}
-
-// The case of a tick in Auto or RCas, by the input that it uses.
-fn case_of(settings: Settings, input: Input) -> Case
-    ensures { rule_case result ≡ case_by settings input }
-{
-    let fsafe_value = blocks::discrete_value(settings.fsafe_val_d);
-    let acts = blocks::fail_safe_acts(input.some, input.silence, input.ifs, settings.fsafe_time);
-    if acts {
-        return fail_safe_case(settings.fsafe_type, fsafe_value, input.some, input.value);
-    }
-    Case::Following(input.value)
-}
-
-// The case by SP_D, or in RCas by RCAS_IN_D.
-fn case_in(settings: Settings, state: State, mode: u32) -> Case
-    ensures { rule_case result ≡ case_by settings (input_used state mode) }
-{
-    let sp = state.sp;
-    let rcas_in = state.rcas_in;
-    let rcas = mode == blocks::RCAS;
-    if rcas {
-        return case_of(settings, rcas_in);
-    }
-    case_of(settings, sp)
-}
-
-// ---- what a case gives
-
-// A value with its status, and the order to go there.
-fn at_position(value: u8, status: u8) -> Given
-    ensures { result ≡ given_of (positioned value status) }
-{
-    Given {
-        out: Discrete { value, status },
-        order: Order::Position(value),
     }
 }
 
-fn given_by(invert: u32, old: u8, case: Case) -> Given
-    ensures { result ≡ given_of (given_by invert old (rule_case case)) }
-{
-    match case {
-        Case::Following(w) => at_position(blocks::inverted(invert, w), 0x80),
-        Case::Fallback(w) => at_position(blocks::inverted(invert, w), 0x48),
-        Case::Held(w) => at_position(blocks::inverted(invert, w), 0x44),
-        Case::NothingHeld => at_position(old, 0x4c),
-        Case::Safety => Given {
-            out: Discrete {
-                value: old,
-                status: 0x00,
-            },
-            order: Order::Safe,
-        },
+impl From<Setpoint<u8>> for Input {
+    fn from(setpoint: Setpoint<u8>) -> Input
+        ensures { result ≡ input_from setpoint }
+    {
+        Input {
+            some: setpoint.some,
+            value: setpoint.value,
+            silence: setpoint.silence,
+            ifs: setpoint.ifs,
+        }
     }
 }
 
-// ---- the tick
+impl Input {
+    #[tactic(auto, unfolding(crate::specs::Telegram::input_after))]
+    fn hear(&mut self, pair: Discrete)
+        ensures { self.new ≡ input_after self.old pair }
+    {
+        let mut setpoint = Setpoint::from(*self);
+        setpoint.hear(pair.status, pair.value, blocks::is_discrete(pair.value));
+        *self = Input::from(setpoint);
+    }
 
-fn given_in(settings: Settings, state: State, mode: u32) -> Given
-    ensures { result ≡ given_of (given_in settings state mode) }
-{
-    let old = state.out.value;
-    let operator = state.operator;
-    let out_of_service = mode == blocks::OUT_OF_SERVICE;
-    if out_of_service {
-        return Given {
-            out: Discrete {
-                value: old,
-                status: blocks::HELD_STATUS,
-            },
-            order: Order::Rest,
+    fn tick(&mut self)
+        ensures { self.new ≡ input_after_tick self.old }
+    {
+        let mut setpoint = Setpoint::from(*self);
+        setpoint.tick();
+        *self = Input::from(setpoint);
+    }
+}
+
+// ---- the settings
+
+impl Drive for Settings {
+    type Value = u8;
+
+    type Out = u8;
+
+    ghost fail_safe = { fail_safe_of };
+
+    ghost scaled = { scaled_of };
+
+    fn fail_safe(&self) -> FailSafe<u8> {
+        FailSafe {
+            time: self.fsafe_time,
+            kind: self.fsafe_type,
+            value: blocks::discrete_value(self.fsafe_val_d),
+        }
+    }
+
+    fn scaled(&self, w: u8) -> Option<u8> {
+        Some(blocks::inverted(self.invert, w))
+    }
+}
+
+// ---- the state
+
+impl State {
+    #[tactic(auto, unfolding(crate::specs::State::started, crate::specs::State::no_telegrams))]
+    fn start(value: u8) -> State
+        ensures { result ≡ started value }
+    {
+        let no_telegrams = Input::from(Setpoint::emptied(0));
+        State {
+            out: Discrete::from(PairOf::held(value)),
+            mode: blocks::OUT_OF_SERVICE,
+            operator: Discrete::from(PairOf::fresh()),
+            sp: no_telegrams,
+            rcas_in: no_telegrams,
+        }
+    }
+
+    #[tactic(auto, unfolding(crate::specs::State::fresh_state))]
+    pub fn fresh() -> State
+        ensures { result ≡ fresh_state }
+    {
+        State::start(0)
+    }
+
+    #[tactic(auto, unfolding(crate::specs::State::warm_started))]
+    pub fn warm_start(&mut self)
+        ensures { self.new ≡ warm_started self.old }
+    {
+        *self = State::start(self.out.value);
+    }
+
+    // An accepted write of OUT_D.
+    #[tactic(auto, unfolding(crate::specs::State::operated_by))]
+    pub fn operate(&mut self, pair: Discrete)
+        ensures { self.new ≡ operated_by self.old pair }
+    {
+        self.operator = pair;
+    }
+
+    // A telegram on the input 2 (SP_D) or 3 (RCAS_IN_D).
+    #[tactic(auto, unfolding(crate::specs::Telegram::telegram_of, crate::specs::Telegram::taken_on))]
+    pub fn telegram(&mut self, input: u8, bytes: &[u8]) -> Result<(), Refusal>
+        ensures answer { result ≡ (telegram_of self.old input bytes.now).answer }
+        ensures state { self.new ≡ (telegram_of self.old input bytes.now).state }
+    {
+        if !((input == 2) | (input == 3)) {
+            return Err(Refusal::NoSuchInput);
+        }
+        let pair = Discrete::try_from(bytes)?;
+        if input == 2 {
+            self.sp.hear(pair);
+        } else {
+            self.rcas_in.hear(pair);
+        }
+        Ok(())
+    }
+
+    // What a tick gives in its actual mode.
+    #[tactic(auto, unfolding(crate::specs::Tick::given_in, crate::specs::Tick::given_by_input, crate::specs::Tick::given_by, crate::specs::Tick::input_used))]
+    fn given(&self, settings: &Settings, mode: u32) -> Given<u8>
+        ensures { result ≡ given_in settings.now self.now mode }
+    {
+        let input = if mode == blocks::RCAS {
+            self.rcas_in
+        } else {
+            self.sp
         };
-    }
-    let man = mode == blocks::MAN;
-    if man {
-        return at_position(operator.value, operator.status);
-    }
-    let case = case_in(settings, state, mode);
-    given_by(settings.invert, old, case)
-}
-
-fn after_tick(input: Input) -> Input
-    ensures { result ≡ input_after_tick input }
-{
-    let mut next = input;
-    next.silence = blocks::silence_after(input.some, input.silence);
-    next
-}
-
-pub fn tick(settings: Settings, state: State, fault: bool) -> Ticked
-    ensures { result ≡ tick_of settings state fault }
-{
-    let operator = state.operator;
-    let sp = state.sp;
-    let rcas_in = state.rcas_in;
-    let mode = blocks::actual_mode(fault, settings.target);
-    let given = given_in(settings, state, mode);
-    let sp = after_tick(sp);
-    let rcas_in = after_tick(rcas_in);
-    let out = given.out;
-    let order = given.order;
-    Ticked {
-        state: State {
-            out,
+        blocks::setpoint::given_in(
+            settings,
             mode,
-            operator,
-            sp,
-            rcas_in,
-        },
-        order,
+            self.out.value,
+            PairOf::from(self.operator),
+            &Setpoint::from(input),
+        )
+    }
+
+    #[tactic(auto, unfolding(crate::specs::Tick::tick_of, crate::specs::Tick::ticked_with))]
+    pub fn tick(&mut self, settings: &Settings, fault: bool) -> Order<u8>
+        ensures order { result ≡ (tick_of settings.now self.old fault).order }
+        ensures state { self.new ≡ (tick_of settings.now self.old fault).state }
+    {
+        let mode = blocks::actual_mode(fault, settings.target);
+        let given = self.given(settings, mode);
+        self.out = Discrete {
+            value: given.value,
+            status: given.status,
+        };
+        self.mode = mode;
+        self.sp.tick();
+        self.rcas_in.tick();
+        given.order
     }
 }

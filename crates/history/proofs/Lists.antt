@@ -1,17 +1,18 @@
 -- The rules' lists of parameters beside the rows of the table: the same blocks and numbers, and the same classes. Assumes nothing.
+use Rattle.std.specs.Prelude.{Ok, Err}
 use Prim.Native.Nat.{ℕ, ◌<◌}
 use native.Mathlib.Omega.{arith}
 use mathlib.Core.Path.{◌≡◌, refl, sym, subst}
+use mathlib.Core.Logic.{◌⊎◌, inl, inr}
 use mathlib.Core.Bool.{Bool, true, false, ◌&&◌, ◌||◌, cond, true≢false}
 use mathlib.Core.List.{List, [], ◌∷◌, ◌++◌}
 use lib.Dec.{T, eqb, ltb}
 use lib.Ieee.Fits.{and_l, and_r}
 use borrow.Author.Tests.{eqb-true, ne_eqb, lt-ltb, ltb-true}
-use Rattle.parameters.specs.declared.Entry.{Entry}
-use Rattle.parameters.specs.declared.Entry.TheVariants.{NoBlock, NoParameter, Parameter}
 use Rattle.parameters.specs.declared.Standing.{Standing}
-use Rattle.parameters.specs.Table.{Row, entry_in, entry_of, static_entry, is_static}
+use Rattle.parameters.specs.Table.{Row, Entry, judged, entry_in, entry_of, static_entry, is_static}
 use Rattle.parameters.specs.Table as Table
+use Rattle.wire.specs.Refusal.{ground}
 use Rattle.parameters.specs.Refused.{ground_by, target_in}
 use Rattle.parameters.specs.Refused as Refused
 use Rattle.parameters.specs.Laws.{by-block, no_block, by_rows, ◌also◌}
@@ -20,9 +21,8 @@ use Rattle.history.specs.Calls.{Event}
 use Rattle.history.specs.Rules.{among, has, statics, kepts, outputs, read_onlys, code, tabled, to_write}
 
 abbrev pub present : ℕ → Entry → Bool
-present number NoBlock = false
-present number NoParameter = false
-present number (Parameter class allowed) = true
+present number (Ok p) = true
+present number (Err r) = false
 
 -- what passes each number of a list passes one that is among them
 abbrev every : (ℕ → Bool) → List ℕ → Bool
@@ -73,27 +73,25 @@ row_listed =
 
 -- what an entry says of its block and number
 abbrev pub Known : ℕ → ℕ → Entry → Type 0
-Known block number NoBlock = ltb 5 block ≡ true
-Known block number NoParameter = (ltb 5 block ≡ false) × (has block number ≡ false)
-Known block number (Parameter class allowed) = (ltb 5 block ≡ false) × (has block number ≡ true)
+Known block number (Ok p) = (ltb 5 block ≡ false) × (has block number ≡ true)
+Known block number (Err r) = ((ltb 5 block ≡ true) × (r ≡ ground 1)) ⊎ ((ltb 5 block ≡ false) × (has block number ≡ false) × (r ≡ ground 2))
 
 missing : (b : Bool) → (T b → ⊥) → b ≡ false
 missing true n = absurd (n tt)
 missing false n = refl
 
--- a block's rows never say that there is no such block
-abbrev blockless : Entry → Bool
-blockless NoBlock = true
-blockless NoParameter = false
-blockless (Parameter class allowed) = false
+-- a block's rows never say that there is no such block: what is not there is no parameter of it
+abbrev Lacking : Entry → Type 0
+Lacking (Ok p) = Unit
+Lacking (Err r) = r ≡ ground 2
 
-rows-blocked : (rows : List Row) (number : ℕ) → blockless (entry_in rows number) ≡ false
+rows-blocked : (rows : List Row) (number : ℕ) → Lacking (entry_in rows number)
 unfolding entry_in
 rows-blocked [] number = refl
 rows-blocked (r ∷ rows) number = go (rows-blocked rows number) (eqb number r.number)
   where
-    go : blockless (entry_in rows number) ≡ false → (b : Bool) → blockless (cond b (Parameter r.class r.allowed) (entry_in rows number)) ≡ false
-    go rest true = refl
+    go : Lacking (entry_in rows number) → (b : Bool) → Lacking (cond b (Ok (judged r)) (entry_in rows number))
+    go rest true = tt
     go rest false = rest
 
 pub known : (block number : ℕ) → Known block number (entry_of block number)
@@ -109,16 +107,15 @@ known block number =
     over
     block
   where
-    in_block : (b : ℕ) → ltb 5 b ≡ false → blockless (entry_of b number) ≡ false → Known b number (entry_of b number)
+    in_block : (b : ℕ) → ltb 5 b ≡ false → Lacking (entry_of b number) → Known b number (entry_of b number)
     in_block b s n = go (entry_of b number) refl n
       where
-        go : (e : Entry) → entry_of b number ≡ e → blockless e ≡ false → Known b number e
-        go NoBlock e n = absurd (true≢false n)
-        go NoParameter e n = (s, missing (has b number) (λ t. subst (λ (x : Entry). T (present number x)) e (listed-present b number t)))
-        go (Parameter class allowed) e n = (s, row_listed b number (subst (λ (x : Entry). T (present number x)) (sym e) tt))
+        go : (e : Entry) → entry_of b number ≡ e → Lacking e → Known b number e
+        go (Ok p) e n = (s, row_listed b number (subst (λ (x : Entry). T (present number x)) (sym e) tt))
+        go (Err r) e n = inr (s, missing (has b number) (λ t. subst (λ (x : Entry). T (present number x)) e (listed-present b number t)), n)
 
     over : (b : ℕ) → 5 < b → Known b number (entry_of b number)
-    over b h = rw (no_block b number h) (lt-ltb 5 b h)
+    over b h = rw (no_block b number h) (inl (lt-ltb 5 b h, refl))
 
 -- ---- grounds of refusal
 
@@ -147,9 +144,9 @@ module _ (h : History Event) (a b : ℕ) where
   ground-same block number = go (entry_of block number) refl (known block number) (row-ground block number)
     where
       go : (e : Entry) → entry_of block number ≡ e → Known block number e → (T (present number e) → ground_by (standing_at h) block number a b e ≡ to_write h block number a b) → ground_by (standing_at h) block number a b e ≡ to_write h block number a b
-      go NoBlock e k row = sym (unfold to_write in rw k)
-      go NoParameter e k row = sym (unfold to_write in rw (k.0, k.1))
-      go (Parameter class allowed) e k row = row tt
+      go (Ok p) e k row = row tt
+      go (Err r) e (inl k) row = sym (unfold to_write in rw (k.0, k.1))
+      go (Err r) e (inr k) row = sym (unfold to_write in rw (k.0, k.1, k.2))
 
 -- ---- static parameters
 
@@ -185,6 +182,6 @@ unfolding is_static
 static-same block number = go (entry_of block number) refl (known block number) (row-static block number)
   where
     go : (e : Entry) → entry_of block number ≡ e → Known block number e → (T (present number e) → static_entry e ≡ among (statics block) number) → static_entry e ≡ among (statics block) number
-    go NoBlock e k row = sym (none-static block number k)
-    go NoParameter e k row = sym (among-left (statics block) (kepts block) number (among-left (statics block ++ kepts block) (outputs block) number (among-left (statics block ++ kepts block ++ outputs block) (read_onlys block) number (unfold has in k.1))))
-    go (Parameter class allowed) e k row = row tt
+    go (Ok p) e k row = row tt
+    go (Err r) e (inl k) row = sym (none-static block number k.0)
+    go (Err r) e (inr k) row = sym (among-left (statics block) (kepts block) number (among-left (statics block ++ kepts block) (outputs block) number (among-left (statics block ++ kepts block ++ outputs block) (read_onlys block) number (unfold has in k.1))))

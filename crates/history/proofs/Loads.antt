@@ -1,11 +1,10 @@
 -- Tables by the rules: what bytes are refused for, what a value becomes, and the device by the rules over a load. Assumes nothing.
-use Rattle.std.specs.Prelude.{Ok, Err}
+use Rattle.std.specs.Prelude.{Ok, Err, Option, None, Some}
 use Prim.Native.Nat.{ℕ, ◌/◌, ◌%◌, ◌<◌, ◌≤◌}
 use native.Mathlib.Omega.{arith}
 use mathlib.Core.Path.{◌≡◌, refl, sym, ap, ◌∙◌, subst}
 use mathlib.Core.Bool.{Bool, true, false, not, ◌&&◌, cond}
 use mathlib.Core.List.{List, [], ◌∷◌}
-use mathlib.Core.Option.{Option, none, some}
 use Rattle.std.specs.Prelude.{Result, Ok, Err}
 use lib.Dec.{T, eqb, leb, ltb, eqb→eq, leb→le, le→leb, ltb→lt}
 use lib.Ieee.Fits.{and_l, and_r, and_i}
@@ -36,15 +35,15 @@ use Rattle.history.proofs.Ruled.{input_at, ao_input, dout_input, ain_at, tot_at,
 
 -- what the pairs from the one used on make of it
 abbrev spoken : List Point → Float → Option Float
-spoken [] x = none
-spoken (p ∷ ps) x = some (along p ps x)
+spoken [] x = None
+spoken (p ∷ ps) x = Some (along p ps x)
 
 said-is : (ps : List Point) (x : Float) → said ps x ≡ spoken (used_on x ps) x
 unfolding said used_on
 said-is [] x = refl
-said-is (p ∷ ps) x = ap (λ (o : Option Float). told o (cond (le p.x x) (some (along p ps x)) none)) (said-is ps x) ∙ go (used_on x ps) (le p.x x)
+said-is (p ∷ ps) x = ap (λ (o : Option Float). told o (cond (le p.x x) (Some (along p ps x)) None)) (said-is ps x) ∙ go (used_on x ps) (le p.x x)
   where
-    go : (u : List Point) (b : Bool) → told (spoken u x) (cond b (some (along p ps x)) none) ≡ spoken (or_here u (cond b (p ∷ ps) [])) x
+    go : (u : List Point) (b : Bool) → told (spoken u x) (cond b (Some (along p ps x)) None) ≡ spoken (or_here u (cond b (p ∷ ps) [])) x
     go [] true = refl
     go [] false = refl
     go (q ∷ u) b = refl

@@ -1,10 +1,11 @@
 -- What reads give of the device by the rules is the rules' reading, and its image is that of the rules' pairs. Assumes nothing.
-use Rattle.std.specs.Prelude.{Ok}
+use Rattle.std.specs.Prelude.{Ok, Err}
 use Prim.Native.Nat.{ℕ, ◌<◌, ◌≤◌, ◌^◌, ◌+◌, ◌*◌}
 use native.Mathlib.Omega.{arith}
 use mathlib.Core.Path.{◌≡◌, refl, sym, ap, ◌∙◌, subst}
 use mathlib.Core.Bool.{Bool, true, false, not, ◌&&◌, cond, true≢false}
 use mathlib.Core.List.{List, ◌++◌}
+use mathlib.Core.Logic.{inl, inr}
 use lib.Dec.{T, leb, leb→le, le→leb, ltb, ltb→lt}
 use lib.Ieee.Fits.{and_l, and_r}
 use borrow.Author.Tests.{ltb-true, ltb-false}
@@ -13,13 +14,12 @@ use Rattle.wire.specs.Bytes.{five_bytes, two_bytes}
 use Rattle.wire.specs.Refusal.{granted}
 use Rattle.wire.specs.Image.{image_answer, image_bytes}
 use Rattle.parameters.specs.declared.Words.{Words}
+use Rattle.parameters.specs.declared.Class.{Class}
 use Rattle.parameters.specs.declared.Class.TheVariants.{S, N, D, R}
 use Rattle.parameters.specs.declared.Allowed.{Allowed}
-use Rattle.parameters.specs.declared.Entry.{Entry}
-use Rattle.parameters.specs.declared.Entry.TheVariants.{NoBlock, NoParameter, Parameter}
-use Rattle.parameters.specs.Table.{entry_of}
+use Rattle.parameters.specs.Table.{Entry, entry_of}
 use Rattle.parameters.specs.Words.{allows_of}
-use Rattle.parameters.specs.Refused.{stored_entry}
+use Rattle.parameters.specs.Refused.{stored_class, stored_entry}
 use Rattle.parameters.specs.Laws.{by_rows, ◌also◌, shown, shown_by, shown-back}
 use Rattle.parameters.specs.Table as Table
 use Rattle.device.specs.Read.{Reading, bit, alarm_byte, ain_words, tot_words, ao_words, di_words, dout_words, discrete_words, words_of, read_of, read_by}
@@ -28,7 +28,7 @@ use Rattle.history.specs.Calls.{Event, words}
 use Rattle.history.specs.Rules.{discrete, has, outputs, read_onlys, stored, stands, hi_hi, hi, lo, lo_lo, alarm_sum, given, reading, to_image}
 use Rattle.history.specs.Rules as Rules
 use Rattle.history.proofs.Lists.{present, Known, known}
-use Rattle.history.proofs.Sound.{fits, sound, Sound}
+use Rattle.history.proofs.Sound.{fits, sound_by, sound, Sound}
 use Rattle.history.proofs.Ruled.{alarms_at, ain_at, tot_at, ao_at, di_at, dout_at, ain_in, tot_in, ao_in, di_in, dout_in, device_of}
 
 allowed-shown : (k : Allowed) (w : Words) → T (allows_of k w.first w.second && fits w) → shown k w ≡ w
@@ -41,12 +41,14 @@ allowed-shown k w t =
 
 -- stored words that are sound read as they are
 sound-shown : (e : Entry) (w : Words) → T (stored_entry e) → T (sound e w) → shown_by e w ≡ w
-sound-shown NoBlock w t q = absurd t
-sound-shown NoParameter w t q = absurd t
-sound-shown (Parameter S allowed) w t q = allowed-shown allowed w q
-sound-shown (Parameter N allowed) w t q = allowed-shown allowed w q
-sound-shown (Parameter D allowed) w t q = absurd t
-sound-shown (Parameter R allowed) w t q = absurd t
+sound-shown (Err r) w t q = absurd t
+sound-shown (Ok p) w t q = go p.class t q
+  where
+    go : (c : Class) → T (stored_class c p.allowed) → T (sound_by c p.allowed w) → shown p.allowed w ≡ w
+    go S t q = allowed-shown p.allowed w q
+    go N t q = allowed-shown p.allowed w q
+    go D t q = absurd t
+    go R t q = absurd t
 
 -- the other rows: outputs, and what is read only
 abbrev unstored : ℕ → Entry → Bool
@@ -141,10 +143,10 @@ module _ (h : History Event) (Q : Sound h) where
           → (T (unstored number e) → read_by (words_of (device_of h) block number) e ≡ Ok (Rules.shown h block number))
           → T (sound e (stored h block number))
           → read_by (words_of (device_of h) block number) e ≡ reading h block number
-      go NoBlock k a b c q = sym (unfold reading in rw k)
-      go NoParameter k a b c q = sym (unfold reading in rw (k.0, k.1))
-      go (Parameter class allowed) k a b c q =
-          shows (Parameter class allowed) (stored_entry (Parameter class allowed)) (λ t. a t ∙ ap Ok (sound-shown (Parameter class allowed) (stored h block number) t q ∙ sym (b t))) c ∙ listed k
+      go (Err r) (inl k) a b c q = sym (unfold reading in rw (k.0, k.1))
+      go (Err r) (inr k) a b c q = sym (unfold reading in rw (k.0, k.1, k.2))
+      go (Ok p) k a b c q =
+          shows (Ok p) (stored_entry (Ok p)) (λ t. a t ∙ ap Ok (sound-shown (Ok p) (stored h block number) t q ∙ sym (b t))) c ∙ listed k
 
 -- ---- the image
 

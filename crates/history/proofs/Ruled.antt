@@ -1,10 +1,10 @@
 -- The device that the rules give, field by field, and that an accepted write leads from one to the next. Assumes nothing.
+use Rattle.std.specs.Prelude.{Option, None, Some}
 use Prim.Native.Nat.{ℕ, ◌+◌, ◌%◌, ◌≤◌, min}
 use native.Mathlib.Omega.{arith}
 use mathlib.Core.Path.{◌≡◌, refl, sym, ap, ◌∙◌}
 use mathlib.Core.Bool.{Bool, true, false, not, ◌&&◌, ◌||◌, cond, true≢false}
 use mathlib.Core.Logic.{inl, inr}
-use mathlib.Core.Option.{Option, none, some}
 use lib.Dec.{T, eqb, ltb}
 use lib.IntN.{ℤ}
 use lib.Ieee.{Float}
@@ -27,7 +27,8 @@ use Rattle.ao.specs.declared.Settings.{Settings as AoSettings}
 use Rattle.ao.specs.declared.State.{State as AoState}
 use Rattle.ao.specs.declared.Input.{Input as Setpoint}
 use Rattle.ao.specs.State.{input_from, operated_by, fresh_state, started, no_telegrams}
-use Rattle.blocks.specs.FailSafe.{InputOf, emptied}
+use Rattle.blocks.specs.declared.setpoint.Setpoint.{Setpoint as InputOf}
+use Rattle.blocks.specs.FailSafe.{emptied}
 use Rattle.di.specs.declared.Settings.{Settings as DiSettings}
 use Rattle.di.specs.declared.State.{State as DiState}
 use Rattle.di.specs.declared.Kept.{Kept as KeptD}
@@ -45,7 +46,8 @@ use Rattle.device.specs.declared.TotBlock.{TotBlock}
 use Rattle.device.specs.declared.AoBlock.{AoBlock}
 use Rattle.device.specs.declared.DiBlock.{DiBlock}
 use Rattle.device.specs.declared.DoutBlock.{DoutBlock}
-use Rattle.device.specs.Stored.{scale_of, pair_of as pair_written, discrete_pair, ain_settings, tot_settings, ao_settings, di_settings, dout_settings, rev_after, entered_by, operator_by, ain_written, tot_written, ao_written, di_written, dout_written, stored_in}
+use Rattle.parameters.specs.Words.{scale_of, pair_of as pair_written, discrete_pair}
+use Rattle.device.specs.Stored.{ain_settings, tot_settings, ao_settings, di_settings, dout_settings, rev_after, entered_by, operator_by, ain_written, tot_written, ao_written, di_written, dout_written, stored_in}
 use Rattle.device.specs.Factory.{ain_by, tot_by, ao_by, di_by, dout_by, factory_device}
 use Rattle.history.specs.Past.{History, start, ◌▷◌, count, count_since, since, latest, told, carried}
 use Rattle.history.specs.Calls.{Fed, Seen, Event, wrote, words}
@@ -58,12 +60,12 @@ use Rattle.history.proofs.Lists.{static-same}
 
 -- a value that may be missing, as a block keeps it
 abbrev pub kept_of : Option Float → Kept
-kept_of none = Common.none
-kept_of (some x) = Common.kept x
+kept_of None = Common.none
+kept_of (Some x) = Common.kept x
 
 abbrev pub byte_of : Option ℕ → KeptD
-byte_of none = record { some = false; value = 0 }
-byte_of (some x) = record { some = true; value = x }
+byte_of None = record { some = false; value = 0 }
+byte_of (Some x) = record { some = true; value = x }
 
 -- a setpoint input by the rules; the count stops at 65,536
 unfoldable pub input_at : {A : Type 0} → Drive A → ℕ → History Event → InputOf A
@@ -194,7 +196,7 @@ alarms-still h e r c = λ i. record { hi_hi = same hi_hi i; hi = same hi i; lo =
     same a = since-still (raises a) (clears a) h e (r a) (c a)
 
 -- without a telegram on an input none is usable there, and none is IFS
-module _ {A : Type 0} (d : Drive A) (input : ℕ) (e : Event) (n : pair_on d input e ≡ none) where
+module _ {A : Type 0} (d : Drive A) (input : ℕ) (e : Event) (n : pair_on d input e ≡ None) where
   pub not-usable : is_usable_on d input e ≡ false
   unfolding is_usable_on
   not-usable = ap (holds (is_usable d)) n
@@ -314,7 +316,7 @@ module _ (h : History Event) (block number a b : ℕ) where
   unfolding stored latest
   stored-wrote B N = go (eqb block B && eqb number N)
     where
-      go : (p : Bool) → or_else (or_zeros (defaults B) N) (told (cond p (some (words a b)) none) (latest (λ p. words_to B N) never h)) ≡ cond p (words a b) (or_else (or_zeros (defaults B) N) (latest (λ p. words_to B N) never h))
+      go : (p : Bool) → or_else (or_zeros (defaults B) N) (told (cond p (Some (words a b)) None) (latest (λ p. words_to B N) never h)) ≡ cond p (words a b) (or_else (or_zeros (defaults B) N) (latest (λ p. words_to B N) never h))
       go true = refl
       go false = refl
 
@@ -347,7 +349,7 @@ module _ (h : History Event) (block number a b : ℕ) where
   unfolding operator latest
   operator-wrote B = go (eqb block B) (eqb number (out_number B)) (enters B)
     where
-      go : (p q r : Bool) → or_else (pair 0 0x4c) (told (cond (not p) none (cond q (some (pair a b)) (cond r (some (last_out B h)) none))) (latest (handed B) is_start h))
+      go : (p q r : Bool) → or_else (pair 0 0x4c) (told (cond (not p) None (cond q (Some (pair a b)) (cond r (Some (last_out B h)) None))) (latest (handed B) is_start h))
           ≡ cond (not p) (or_else (pair 0 0x4c) (latest (handed B) is_start h)) (cond q (pair a b) (cond r (last_out B h) (or_else (pair 0 0x4c) (latest (handed B) is_start h))))
       go false q r = refl
       go true true r = refl

@@ -1,9 +1,8 @@
 -- Stored words are allowed words of 32 bits: the defaults are, and an accepted write's are. Assumes nothing.
-use Rattle.std.specs.Prelude.{Ok, Err}
+use Rattle.std.specs.Prelude.{Ok, Err, None, Some}
 use Prim.Native.Nat.{ℕ, ◌^◌}
 use mathlib.Core.Path.{◌≡◌, refl, subst}
-use mathlib.Core.Bool.{Bool, true, false, ◌&&◌, cond}
-use mathlib.Core.Option.{none, some}
+use mathlib.Core.Bool.{Bool, true, false, not, ◌&&◌, cond}
 use lib.Dec.{T, eqb, ltb}
 use lib.Ieee.{le, of_bits, of_int, ne}
 use lib.Ieee.Fits.{and_i}
@@ -11,14 +10,14 @@ use borrow.Author.Tests.{eqb-true}
 use Rattle.scaling.specs.Scaling.{allowed_scale}
 use Rattle.wire.specs.Refusal.{granted, Answer}
 use Rattle.parameters.specs.declared.Words.{Words}
+use Rattle.parameters.specs.declared.Class.{Class}
 use Rattle.parameters.specs.declared.Class.TheVariants.{S, N, D, R}
-use Rattle.parameters.specs.declared.Entry.{Entry}
-use Rattle.parameters.specs.declared.Entry.TheVariants.{NoBlock, NoParameter, Parameter}
+use Rattle.parameters.specs.declared.Allowed.{Allowed}
 use Rattle.parameters.specs.declared.Standing.{Standing}
-use Rattle.parameters.specs.Table.{entry_in, entry_of}
+use Rattle.parameters.specs.Table.{Entry, entry_in, entry_of}
 use Rattle.parameters.specs.Table as Table
 use Rattle.parameters.specs.Words.{allows_of}
-use Rattle.parameters.specs.Refused.{ground}
+use Rattle.parameters.specs.Refused.{read_only, ground}
 use Rattle.parameters.specs.Laws.{by_rows, ◌also◌, takes, accepted-takes}
 use Rattle.history.specs.Past.{History, start, ◌▷◌, latest, told}
 use Rattle.history.specs.Calls.{Event, wrote, words}
@@ -28,13 +27,15 @@ abbrev pub fits : Words → Bool
 fits w = ltb w.first (2 ^ 32) && ltb w.second (2 ^ 32)
 
 -- words of an entry that can be written
+abbrev pub sound_by : Class → Allowed → Words → Bool
+sound_by S allowed w = allows_of allowed w.first w.second && fits w
+sound_by N allowed w = allows_of allowed w.first w.second && fits w
+sound_by D allowed w = allows_of allowed w.first w.second && fits w
+sound_by R allowed w = true
+
 abbrev pub sound : Entry → Words → Bool
-sound NoBlock w = true
-sound NoParameter w = true
-sound (Parameter S allowed) w = allows_of allowed w.first w.second && fits w
-sound (Parameter N allowed) w = allows_of allowed w.first w.second && fits w
-sound (Parameter D allowed) w = allows_of allowed w.first w.second && fits w
-sound (Parameter R allowed) w = true
+sound (Ok p) w = sound_by p.class p.allowed w
+sound (Err r) w = true
 
 abbrev pub Sound : History Event → Type 0
 Sound h = (block number : ℕ) → T (sound (entry_of block number) (stored h block number))
@@ -65,12 +66,14 @@ sound-start block number = default-sound block number
 
 -- ---- an accepted write
 accepted-sound : (e : Entry) (a b : ℕ) → T (takes e a b) → T (fits (words a b)) → T (sound e (words a b))
-accepted-sound NoBlock a b t f = tt
-accepted-sound NoParameter a b t f = tt
-accepted-sound (Parameter S allowed) a b t f = and_i (allows_of allowed a b) (fits (words a b)) t f
-accepted-sound (Parameter N allowed) a b t f = and_i (allows_of allowed a b) (fits (words a b)) t f
-accepted-sound (Parameter D allowed) a b t f = and_i (allows_of allowed a b) (fits (words a b)) t f
-accepted-sound (Parameter R allowed) a b t f = tt
+accepted-sound (Err r) a b t f = tt
+accepted-sound (Ok p) a b t f = go p.class t
+  where
+    go : (c : Class) → T (not (read_only c) && allows_of p.allowed a b) → T (sound_by c p.allowed (words a b))
+    go S t = and_i (allows_of p.allowed a b) (fits (words a b)) t f
+    go N t = and_i (allows_of p.allowed a b) (fits (words a b)) t f
+    go D t = and_i (allows_of p.allowed a b) (fits (words a b)) t f
+    go R t = tt
 
 accepted-is : (g : Answer) → T (is_accepted g) → g ≡ granted
 accepted-is (Ok u) t = refl
@@ -83,7 +86,7 @@ sound-write h s block number a b old t f block' number' = go (eqb block block') 
     same : block ≡ block' → number ≡ number' → T (sound (entry_of block' number') (words a b))
     same p q = subst (λ (x : ℕ). T (sound (entry_of x number') (words a b))) p (subst (λ (x : ℕ). T (sound (entry_of block x) (words a b))) q (accepted-sound (entry_of block number) a b (accepted-takes s block number a b (accepted-is (ground s block number a b) t)) f))
 
-    go : (p : Bool) → eqb block block' ≡ p → (q : Bool) → eqb number number' ≡ q → T (sound (entry_of block' number') (or_else (or_zeros (defaults block') number') (told (cond (p && q) (some (words a b)) none) (latest (λ p. words_to block' number') never h))))
+    go : (p : Bool) → eqb block block' ≡ p → (q : Bool) → eqb number number' ≡ q → T (sound (entry_of block' number') (or_else (or_zeros (defaults block') number') (told (cond (p && q) (Some (words a b)) None) (latest (λ p. words_to block' number') never h))))
     go true ep true eq = same (eqb-true block block' ep) (eqb-true number number' eq)
     go true ep false eq = old block' number'
     go false ep q eq = old block' number'

@@ -1,11 +1,10 @@
 -- The device by the rules over a telegram and a warm start. Assumes nothing.
-use Rattle.std.specs.Prelude.{Ok}
+use Rattle.std.specs.Prelude.{Ok, None, Some}
 use Prim.Native.Nat.{ℕ, zero, suc, ◌<◌, min}
 use native.Mathlib.Omega.{arith}
 use mathlib.Core.Path.{◌≡◌, refl, sym, ap, ◌∙◌}
 use mathlib.Core.Bool.{Bool, true, false, not, ◌&&◌, ◌||◌, cond}
 use mathlib.Core.List.{List}
-use mathlib.Core.Option.{none, some}
 use lib.Dec.{eqb, ltb}
 use lib.Ieee.{Float}
 use lib.ListN.{length, get_or}
@@ -14,8 +13,8 @@ use Rattle.wire.specs.declared.Pair.{Pair}
 use Rattle.wire.specs.declared.Discrete.{Discrete}
 use Rattle.wire.specs.Bytes.{pair_of, word_of, discrete_of}
 use Rattle.blocks.specs.Common as Common
-use Rattle.blocks.specs.FailSafe.{InputOf, usable, initiates, after_telegram, emptied}
-use Rattle.blocks.specs.Output.{telegram_by}
+use Rattle.blocks.specs.declared.setpoint.Setpoint.{Setpoint as InputOf}
+use Rattle.blocks.specs.FailSafe.{usable, initiates, after_telegram, emptied}
 use Rattle.blocks.specs.Laws.{usable-means, initiates-means, usable-excludes}
 use Rattle.ao.specs.declared.State.{State as AoState}
 use Rattle.ao.specs.State.{input_from, no_telegrams, started, warm_started as ao_warm_started}
@@ -37,7 +36,7 @@ made came value n ifs = record { some = came; value = value; silence = cond came
 
 -- ---- an input after a telegram on it
 
-module _ {A : Type 0} (d : Drive A) (input : ℕ) (h : History Event) (e : Event) (p : Pair) (here : pair_on d input e ≡ some p) (s : is_start e ≡ false) (t : is_tick e ≡ false) where
+module _ {A : Type 0} (d : Drive A) (input : ℕ) (h : History Event) (e : Event) (p : Pair) (here : pair_on d input e ≡ Some p) (s : is_start e ≡ false) (t : is_tick e ≡ false) where
   abbrev u : Bool
   u = usable p.status (d.fine p.bits)
 
@@ -68,7 +67,7 @@ module _ {A : Type 0} (d : Drive A) (input : ℕ) (h : History Event) (e : Event
   unfolding setpoint latest
   setpoint-is = rw (s, usable-is, here) (go u)
     where
-      go : (b : Bool) → or_else d.zero (told (cond b (some (d.value p.bits)) none) (latest (λ q. setpoint_on d input) is_start h)) ≡ cond b (d.value p.bits) (setpoint d input h)
+      go : (b : Bool) → or_else d.zero (told (cond b (Some (d.value p.bits)) None) (latest (λ q. setpoint_on d input) is_start h)) ≡ cond b (d.value p.bits) (setpoint d input h)
       go true = refl
       go false = refl
 
@@ -110,7 +109,7 @@ module _ (h : History Event) (input : ℕ) (bytes : List ℕ) where
 
   -- the input that it came on, and any other
   module _ {A : Type 0} (d : Drive A) (i : ℕ) where
-    taken : (p : Pair) → eqb input i ≡ true → d.received bytes ≡ some p → after_telegram p.status (d.fine p.bits) (d.value p.bits) (input_at d i h) ≡ input_at d i then
+    taken : (p : Pair) → eqb input i ≡ true → d.received bytes ≡ Some p → after_telegram p.status (d.fine p.bits) (d.value p.bits) (input_at d i h) ≡ input_at d i then
     taken p e r = sym (input-heard d i h (telegram input bytes) p (rw e r) refl refl)
 
     other : eqb input i ≡ false → input_at d i h ≡ input_at d i then
@@ -174,11 +173,11 @@ ruled-telegram h bytes = go
   where
     on-ao : (input : ℕ) → ltb 1 input ≡ false → eqb (length bytes) 5 ≡ true → eqb input 2 ≡ false → eqb input 3 ≡ false → taken_on (ao_in h) input (five bytes) ≡ ao_in (h ▷ telegram input bytes)
         → (telegram_of (device_of h) input bytes).device ≡ device_of (h ▷ telegram input bytes)
-    on-ao input n l e f s = unfold telegram_of Ao.telegram_of telegram_by device_of in rw (n, five-is bytes l) (whole h input bytes (taken_on (ao_in h) input (five bytes)) (dout_in h) s (dout-same h input bytes e f))
+    on-ao input n l e f s = unfold telegram_of Ao.telegram_of device_of in rw (n, five-is bytes l) (whole h input bytes (taken_on (ao_in h) input (five bytes)) (dout_in h) s (dout-same h input bytes e f))
 
     on-dout : (input : ℕ) → ltb 1 input ≡ true → Sluice.lacking input ≡ false → eqb (length bytes) 2 ≡ true → eqb input 0 ≡ false → eqb input 1 ≡ false
         → Sluice.taken_on (dout_in h) input (two bytes) ≡ dout_in (h ▷ telegram input bytes) → (telegram_of (device_of h) input bytes).device ≡ device_of (h ▷ telegram input bytes)
-    on-dout input n k l e f s = unfold telegram_of Sluice.telegram_of telegram_by device_of in rw (n, k, two_is bytes l) (whole h input bytes (ao_in h) (Sluice.taken_on (dout_in h) input (two bytes)) (ao-same h input bytes e f) s)
+    on-dout input n k l e f s = unfold telegram_of Sluice.telegram_of device_of in rw (n, k, two_is bytes l) (whole h input bytes (ao_in h) (Sluice.taken_on (dout_in h) input (two bytes)) (ao-same h input bytes e f) s)
 
     go : (input : ℕ) → input < 4 → eqb (length bytes) (telegram_bytes input) ≡ true → (telegram_of (device_of h) input bytes).device ≡ device_of (h ▷ telegram input bytes)
     go zero s l = on-ao 0 refl l refl refl (unfold taken_on input_after ao_in in ao-by h 0 bytes _ _ (taken h 0 bytes analog_out 0 (five bytes) refl (ap five_as (five-is bytes l))) (other h 0 bytes analog_out 1 refl))
@@ -230,7 +229,7 @@ module _ (h : History Event) where
       state = record { out = held (given 3 h); mode = out_of_service; operator = pair 0 0x4c; sp = input_from (emptied-input analog_out 0 i); rcas_in = input_from (emptied-input analog_out 1 i) };
       st_rev = st_rev h 3;
     };
-    di = record { settings = di_at h; state = record { out = discrete (held (given 4 h)); mode = out_of_service; last = byte_of none; operator = discrete (pair 0 0x4c) }; st_rev = st_rev h 4 };
+    di = record { settings = di_at h; state = record { out = discrete (held (given 4 h)); mode = out_of_service; last = byte_of None; operator = discrete (pair 0 0x4c) }; st_rev = st_rev h 4 };
     dout = record {
       settings = dout_at h;
       state = record { out = discrete (held (given 5 h)); mode = out_of_service; operator = discrete (pair 0 0x4c); sp = Dout.input_from (emptied-input discrete_out 2 i); rcas_in = Dout.input_from (emptied-input discrete_out 3 i) };

@@ -19,16 +19,14 @@ use Rattle.wire.specs.declared.Discrete.{Discrete}
 use Rattle.wire.specs.Bytes.{pair_of, word_of, discrete_of}
 use Rattle.wire.specs.Image.{image_bytes}
 use Rattle.wire.specs.declared.Refusal.TheVariants.{WrongLength}
-use Rattle.wire.specs.Refusal.{granted, Answer}
-use Rattle.blocks.specs.Output.{received_by, telegram_by}
+use Rattle.wire.specs.Refusal.{granted, Answer, ground as refusal}
+use Rattle.blocks.specs.Output.{received_by}
 use Rattle.ao.specs.Telegram as Ao
 use Rattle.dout.specs.Telegram as Dout
 use Rattle.parameters.specs.declared.Standing.{Standing}
-use Rattle.parameters.specs.declared.Entry.{Entry}
-use Rattle.parameters.specs.declared.Entry.TheVariants.{NoBlock, NoParameter, Parameter}
 use Rattle.parameters.specs.declared.Class.TheVariants.{N}
 use Rattle.parameters.specs.declared.Allowed.TheVariants.{Lock}
-use Rattle.parameters.specs.Table.{entry_in, entry_of}
+use Rattle.parameters.specs.Table.{Entry, entry_in, entry_of}
 use Rattle.parameters.specs.Table as Table
 use Rattle.parameters.specs.Words.{allows_of}
 use Rattle.parameters.specs.Refused.{ground, ground_by}
@@ -69,7 +67,7 @@ only-lock : (s : Standing) (block number a b : ℕ) → ground s block number a 
 unfolding ground entry_of entry_in Table.physical
 only-lock s block number a b t e = go (eqb number 18) (subst (λ (x : Answer). T (is_accepted x)) (sym (sym (ap (λ (x : ℕ). ground s x number a b) (eqb-true block 0 e)) ∙ t)) tt)
   where
-    go : (p : Bool) → T (is_accepted (ground_by s 0 number a b (cond p (Parameter N Lock) NoParameter))) → p ≡ true
+    go : (p : Bool) → T (is_accepted (ground_by s 0 number a b (cond p (Ok (record { class = N; allowed = Lock })) (Err (refusal 2))))) → p ≡ true
     go true t = refl
     go false t = absurd t
 
@@ -108,9 +106,8 @@ module _ (a b : ℕ) where
 
 -- one that is taken has a row
 taken-present : (e : Entry) (number a b : ℕ) → T (takes e a b) → T (present number e)
-taken-present NoBlock number a b t = t
-taken-present NoParameter number a b t = t
-taken-present (Parameter class allowed) number a b t = tt
+taken-present (Ok p) number a b t = tt
+taken-present (Err r) number a b t = t
 
 -- what stands, by the device and by the rules
 standing-same : (h : History Event) → has_table (table_of (table h)) ≡ Rules.tabled h → standing_of (device_of h) ≡ standing_at h
@@ -158,7 +155,7 @@ two d input bytes false = refl
 
 -- what a telegram is answered, by its input
 telegram-answer : (d : Device) (input : ℕ) (bytes : List ℕ) → (telegram_of d input bytes).answer ≡ to_telegram input bytes
-unfolding telegram_of Ao.telegram_of Dout.telegram_of telegram_by pair_of discrete_of to_telegram
+unfolding telegram_of Ao.telegram_of Dout.telegram_of pair_of discrete_of to_telegram
 telegram-answer d zero bytes = five d 0 bytes (eqb (length bytes) 5)
 telegram-answer d (suc zero) bytes = five d 1 bytes (eqb (length bytes) 5)
 telegram-answer d (suc (suc zero)) bytes = two d 2 bytes (eqb (length bytes) 2)

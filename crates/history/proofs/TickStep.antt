@@ -1,10 +1,10 @@
 -- The device by the rules over a tick, and the tick's drive order. Assumes nothing.
+use Rattle.std.specs.Prelude.{Option, None, Some}
 use Prim.Native.Nat.{ℕ, ◌+◌, ◌≤◌, min}
 use native.Mathlib.Omega.{arith}
 use mathlib.Core.Path.{◌≡◌, refl, sym, ap, ◌∙◌}
 use mathlib.Core.Bool.{Bool, true, false, not, ◌&&◌, ◌||◌, cond}
 use mathlib.Core.Logic.{inl, inr}
-use mathlib.Core.Option.{Option, none, some}
 use lib.Dec.{T, eqb, eqb→eq, leb, leb→le}
 use lib.IntN.{pos}
 use lib.Ieee.{Float, binary32, of_int, of_bits, sub}
@@ -19,9 +19,11 @@ use Rattle.ain.specs.Alarm.{rises, falls, alarm_stands, alarms_of, no_alarms}
 use Rattle.ain.specs.Tick as Ain
 use Rattle.ain.specs.Laws.{good-exactly}
 use Rattle.tot.specs.Tick as Tot
-use Rattle.blocks.specs.FailSafe as FailSafe
 use Rattle.ao.specs.State.{input_from}
-use Rattle.blocks.specs.FailSafe.{OrderOf, GivenOf, scaled_or, leads_to, by_mode, case_of, Case, following, fallback, held, nothing_held, safety, fail_safe_acts, fail_safe_case, silence_after, after_tick}
+use Rattle.blocks.specs.declared.setpoint.Case.TheVariants.{Following, Fallback, Held, NothingHeld, Safety}
+use Rattle.blocks.specs.declared.setpoint.Order.{Order}
+use Rattle.blocks.specs.declared.setpoint.Given.{Given as GivenOf}
+use Rattle.blocks.specs.FailSafe.{scaled_or, leads_to, by_mode, case_of, fail_safe_acts, fail_safe_case, silence_after, after_tick}
 use Rattle.ao.specs.Tick as Ao
 use Rattle.blocks.specs.Discrete.{inverted}
 use Rattle.di.specs.declared.State.{State as DiState}
@@ -31,7 +33,7 @@ use Rattle.dout.specs.State as DoutState
 use Rattle.dout.specs.Tick as Dout
 use Rattle.blocks.specs.Laws.{stopped-decides}
 use Rattle.parameters.specs.declared.Words.{Words}
-use Rattle.parameters.specs.declared.Allowed.TheVariants.{Mode, UpTo}
+use Rattle.parameters.specs.declared.Allowed.TheVariants.{Mode, ModeOrRcas, UpTo}
 use Rattle.parameters.specs.Table.{entry_in, entry_of}
 use Rattle.parameters.specs.Table as Table
 use Rattle.parameters.specs.Words.{allows_of}
@@ -52,23 +54,23 @@ use Rattle.history.proofs.Ticks.{calculated-is, IsMode, IsAoMode, target, ao-tar
 module _ (h : History Event) (S : Sound h) where
   ain-mode : (fault : Bool) → IsMode (mode_at h fault 1)
   unfolding mode_at actual_mode entry_of entry_in Table.ain
-  ain-mode fault = mode fault (stored h 1 5).first (target (stored h 1 5).first (stored h 1 5).second (and_l (allows_of (Mode false) (stored h 1 5).first (stored h 1 5).second) _ (S 1 5)))
+  ain-mode fault = mode fault (stored h 1 5).first (target (stored h 1 5).first (stored h 1 5).second (and_l (allows_of Mode (stored h 1 5).first (stored h 1 5).second) _ (S 1 5)))
 
   tot-mode : (fault : Bool) → IsMode (mode_at h fault 2)
   unfolding mode_at actual_mode entry_of entry_in Table.tot
-  tot-mode fault = mode fault (stored h 2 5).first (target (stored h 2 5).first (stored h 2 5).second (and_l (allows_of (Mode false) (stored h 2 5).first (stored h 2 5).second) _ (S 2 5)))
+  tot-mode fault = mode fault (stored h 2 5).first (target (stored h 2 5).first (stored h 2 5).second (and_l (allows_of Mode (stored h 2 5).first (stored h 2 5).second) _ (S 2 5)))
 
   ao-mode-at : (fault : Bool) → IsAoMode (mode_at h fault 3)
-  unfolding mode_at actual_mode entry_of entry_in Table.ao
-  ao-mode-at fault = ao-mode fault (stored h 3 5).first (ao-target true (stored h 3 5).first (stored h 3 5).second (and_l (allows_of (Mode true) (stored h 3 5).first (stored h 3 5).second) _ (S 3 5)))
+  unfolding mode_at actual_mode entry_of entry_in Table.ao allows_of
+  ao-mode-at fault = ao-mode fault (stored h 3 5).first (ao-target true (stored h 3 5).first (stored h 3 5).second (and_l (allows_of ModeOrRcas (stored h 3 5).first (stored h 3 5).second) _ (S 3 5)))
 
   di-mode : (fault : Bool) → IsMode (mode_at h fault 4)
   unfolding mode_at actual_mode entry_of entry_in Table.di Table.discrete
-  di-mode fault = mode fault (stored h 4 5).first (target (stored h 4 5).first (stored h 4 5).second (and_l (allows_of (Mode false) (stored h 4 5).first (stored h 4 5).second) _ (S 4 5)))
+  di-mode fault = mode fault (stored h 4 5).first (target (stored h 4 5).first (stored h 4 5).second (and_l (allows_of Mode (stored h 4 5).first (stored h 4 5).second) _ (S 4 5)))
 
   dout-mode : (fault : Bool) → IsAoMode (mode_at h fault 5)
-  unfolding mode_at actual_mode entry_of entry_in Table.dout Table.discrete
-  dout-mode fault = ao-mode fault (stored h 5 5).first (ao-target true (stored h 5 5).first (stored h 5 5).second (and_l (allows_of (Mode true) (stored h 5 5).first (stored h 5 5).second) _ (S 5 5)))
+  unfolding mode_at actual_mode entry_of entry_in Table.dout Table.discrete allows_of
+  dout-mode fault = ao-mode fault (stored h 5 5).first (ao-target true (stored h 5 5).first (stored h 5 5).second (and_l (allows_of ModeOrRcas (stored h 5 5).first (stored h 5 5).second) _ (S 5 5)))
 
 -- a stored code is within its range
 code-small : (n : ℕ) (w : Words) → T (allows_of (UpTo n) w.first w.second && fits w) → w.first ≤ n
@@ -155,10 +157,10 @@ module _ {A : Type 0} (d : Drive A) (input : ℕ) (h : History Event) (fault : B
 -- ---- what an output block gives
 
 -- as the rules have it
-abbrev moved : OrderOf ℕ → Move
-moved (FailSafe.position bits) = Rules.position bits
-moved FailSafe.safe = Rules.safe
-moved FailSafe.rest = Rules.rest
+abbrev moved : Order ℕ → Move
+moved (Order.Position bits) = Rules.position bits
+moved Order.Safe = Rules.safe
+moved Order.Rest = Rules.rest
 
 abbrev shown : GivenOf ℕ → Given
 shown g = record { out = pair g.value g.status; move = moved g.order }
@@ -177,8 +179,8 @@ module _ {A : Type 0} (d : Drive A) (h : History Event) where
   working-is w status = go (d.worked h w)
     where
       go : (o : Option ℕ) → shown (scaled_or (old_out B h) status o) ≡ worked_or (old_out B h) status o
-      go none = refl
-      go (some bits) = refl
+      go None = refl
+      go (Some bits) = refl
 
   -- by the input in use, with old OUT
   abbrev led_by : ℕ → ℕ → GivenOf ℕ
@@ -204,7 +206,7 @@ module _ {A : Type 0} (d : Drive A) (h : History Event) where
         ∙ go (is_fail_safe d input h) (eqb (code h B d.kind) 0) (eqb (code h B d.kind) 1) (came d input h)
       where
         led : (f a b c : Bool) → Given
-        led f a b c = shown (leads_to (d.worked h) (old_out B h) (cond f (cond a (fallback (d.fallback h)) (cond b (cond c (held (setpoint d input h)) nothing_held) safety)) (following (setpoint d input h))))
+        led f a b c = shown (leads_to (d.worked h) (old_out B h) (cond f (cond a (Fallback (d.fallback h)) (cond b (cond c (Held (setpoint d input h)) NothingHeld) Safety)) (Following (setpoint d input h))))
 
         go : (f a b c : Bool) → led f a b c ≡ cond f (cond a (working d h (d.fallback h) 0x48) (cond b (cond c (working d h (setpoint d input h) 0x44) (positioned (old_out B h) 0x4c)) (record { out = pair (old_out B h) 0x00; move = Rules.safe }))) (working d h (setpoint d input h) 0x80)
         go false a b c = working-is (setpoint d input h) 0x80
@@ -249,7 +251,7 @@ module _ (h : History Event) where
 
   ao-worked : (w : Float) → Ao.out_of (ao_at h) w ≡ ao_worked h w
   unfolding Ao.out_of ao_worked
-  ao-worked w = ap (λ (x : Float). cond (finite x) (some (bits_of x)) none) (scaled-is w)
+  ao-worked w = ap (λ (x : Float). cond (finite x) (Some (bits_of x)) None) (scaled-is w)
 
   -- what AO's tick gives, in the rules' terms
   ao-all : (fault : Bool) → Ao.given_in (ao_at h) (ao_in h) (mode_at h fault 3) ≡ all analog_out h fault
@@ -264,10 +266,10 @@ module _ (h : History Event) where
       go false = refl
 
 -- an order as the tick answers it
-order_same : (o : OrderOf ℕ) → Ao.drive_order o ≡ analog_order (moved o)
-order_same (FailSafe.position bits) = refl
-order_same FailSafe.safe = refl
-order_same FailSafe.rest = refl
+order_same : (o : Order ℕ) → Ao.drive_order o ≡ analog_order (moved o)
+order_same (Order.Position bits) = refl
+order_same Order.Safe = refl
+order_same Order.Rest = refl
 
 -- ---- DO
 
@@ -282,10 +284,10 @@ dout-all h small fault = (λ i. by_mode (mode_at h fault 5) (given 5 h).bits (op
     go true = refl
     go false = refl
 
-order-d-same : (o : OrderOf ℕ) → Dout.drive_order o ≡ discrete_order (moved o)
-order-d-same (FailSafe.position value) = refl
-order-d-same FailSafe.safe = refl
-order-d-same FailSafe.rest = refl
+order-d-same : (o : Order ℕ) → o ≡ discrete_order (moved o)
+order-d-same (Order.Position value) = refl
+order-d-same Order.Safe = refl
+order-d-same Order.Rest = refl
 
 -- ---- the tick
 
@@ -333,7 +335,7 @@ module _ (h : History Event) (S : Sound h) (fault : Bool) (fed : Fed) (old : (B 
 
     pub order-d-is : (ticked_by (device_of h) fault fed).order_d ≡ order_d h fault
     unfolding tick_of device_of Dout.tick_of Dout.ticked_with actual_mode mode_at dout_at order_d
-    order-d-is = ap (λ (g : GivenOf ℕ). Dout.drive_order g.order) (dout-all h (sluice-small h S) fault) ∙ order-d-same (all discrete_out h fault).order
+    order-d-is = ap (λ (g : GivenOf ℕ). g.order) (dout-all h (sluice-small h S) fault) ∙ order-d-same (all discrete_out h fault).order
         ∙ ap discrete_order (move-is discrete_out h (time-d-small h S) fault dout_old (dout-mode h S fault))
 
     pub good-d-is : T (is_auto h fault 4) → good next.di.state.out.status ≡ (good fed.di.status && is_bit fed.di.value)

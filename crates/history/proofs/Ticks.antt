@@ -4,7 +4,7 @@ use native.Mathlib.Omega.{arith}
 use mathlib.Core.Path.{◌≡◌, refl, sym, ap, ◌∙◌, subst}
 use mathlib.Core.Bool.{Bool, true, false, not, ◌&&◌, ◌||◌, cond}
 use mathlib.Core.Logic.{◌⊎◌, inl, inr}
-use mathlib.Core.Option.{Option, none, some}
+use Rattle.std.specs.Prelude.{Option, None, Some, Err}
 use lib.Dec.{T, eqb, eqb→eq}
 use borrow.Author.Tests.{eqb-true, eqb-false}
 use lib.IntN.{ℤ, pos}
@@ -17,14 +17,13 @@ use Rattle.linearisation.specs.declared.Table.{Table}
 use Rattle.linearisation.specs.Table.{table_of}
 use Rattle.wire.specs.declared.Pair.{Pair}
 use Rattle.wire.specs.Status.{quality_of}
-use Rattle.blocks.specs.declared.Input.{Input}
-use Rattle.blocks.specs.declared.Input.TheVariants.{Usable, Bad}
-use Rattle.blocks.specs.Common.{actual_mode, input_status, as_pair}
+use Rattle.blocks.specs.Common.{InputStatus, usable_input, actual_mode, input_status, as_pair}
 use Rattle.blocks.specs.Discrete.{inverted, discrete_value}
 use Rattle.blocks.specs.InputBlock.{present, last_usable_or, scaled_or_old, fail_safe_pair}
 use Rattle.blocks.specs.Common as Common
 use Rattle.parameters.specs.declared.Allowed.TheVariants.{Mode}
 use Rattle.parameters.specs.Words.{allows_of}
+use Rattle.parameters.specs.Words as Parameters
 use Rattle.ain.specs.declared.State.{State as AinState}
 use Rattle.ain.specs.Scaling.{scaled_of, filtered}
 use Rattle.ain.specs.Alarm.{rises, falls, alarm_stands, alarms_of, no_alarms, alarm_status}
@@ -54,8 +53,7 @@ either : (a b : Bool) → T (a || b) → T a ⊎ T b
 either true b t = inl tt
 either false b t = inr t
 
-pub ao-target : (r : Bool) (a b : ℕ) → T (allows_of (Mode r) a b) → IsAoMode a
-unfolding allows_of
+pub ao-target : (r : Bool) (a b : ℕ) → T (Parameters.mode r a && eqb b 0) → IsAoMode a
 ao-target r a b t = first r (either (eqb a out_of_service || eqb a man || eqb a auto) (r && eqb a rcas) (and_l (eqb a out_of_service || eqb a man || eqb a auto || r && eqb a rcas) (eqb b 0) t))
   where
     third : T (eqb a out_of_service) ⊎ T (eqb a man) → IsMode a
@@ -72,7 +70,7 @@ ao-target r a b t = first r (either (eqb a out_of_service || eqb a man || eqb a 
     first false (inr x) = absurd x
 
 -- without RCas
-pub target : (a b : ℕ) → T (allows_of (Mode false) a b) → IsMode a
+pub target : (a b : ℕ) → T (allows_of Mode a b) → IsMode a
 unfolding allows_of
 target a b t = go (either (eqb a out_of_service || eqb a man || eqb a auto) false (and_l (eqb a out_of_service || eqb a man || eqb a auto || false) (eqb b 0) t)) (ao-target false a b t)
   where
@@ -102,15 +100,15 @@ ao-mode false a m = go (eqb a out_of_service) m
 
 -- ---- input status
 
-abbrev input_from : Option ℕ → Input
-input_from none = Usable
-input_from (some bad) = Bad bad
+abbrev input_from : Option ℕ → InputStatus
+input_from None = usable_input
+input_from (Some bad) = Err bad
 
 status-is : (status : ℕ) (value calculated : Bool) → input_status status value calculated ≡ input_from (bad_status status value calculated)
 unfolding input_status bad_status
 status-is status value calculated = go (eqb (quality_of status) 3) (eqb (quality_of status) 0) value calculated
   where
-    go : (a b c d : Bool) → cond a (Bad 0x04) (cond b (Bad status) (cond (not c) (Bad 0x10) (cond (not d) (Bad 0x04) Usable))) ≡ input_from (cond a (some 0x04) (cond b (some status) (cond (not c) (some 0x10) (cond (not d) (some 0x04) none))))
+    go : (a b c d : Bool) → cond a (Err 0x04) (cond b (Err status) (cond (not c) (Err 0x10) (cond (not d) (Err 0x04) usable_input))) ≡ input_from (cond a (Some 0x04) (cond b (Some status) (cond (not c) (Some 0x10) (cond (not d) (Some 0x04) None))))
     go true b c d = refl
     go false true c d = refl
     go false false false d = refl
@@ -122,10 +120,10 @@ status-is status value calculated = go (eqb (quality_of status) 3) (eqb (quality
 module _ {A : Type 0} (s : Sensor A) where
   -- a value that may be missing, by its word
   abbrev worded : Option A → Option ℕ
-  worded none = none
-  worded (some x) = some (s.word x)
+  worded None = None
+  worded (Some x) = Some (s.word x)
 
-  there-is : (b : Bool) (x : A) → present b (s.word x) ≡ worded (cond b (some x) none)
+  there-is : (b : Bool) (x : A) → present b (s.word x) ≡ worded (cond b (Some x) None)
   there-is true x = refl
   there-is false x = refl
 
@@ -143,10 +141,10 @@ module _ {A : Type 0} (s : Sensor A) where
 
         go : (a b : Bool) (o c : Option A) → chosen (old_out s.block h) a b o c ≡ cond a (pair (s.word (s.fallback h)) 0x48) (cond b (last_or s o) (pair (word_or s (old_out s.block h) c) bad))
         go true b o c = refl
-        go false true none c = refl
-        go false true (some x) c = refl
-        go false false o none = refl
-        go false false o (some x) = refl
+        go false true None c = refl
+        go false true (Some x) c = refl
+        go false false o None = refl
+        go false false o (Some x) = refl
 
 -- ---- AIN
 
@@ -171,8 +169,8 @@ module _ (h : History Event) (fed : Fed) where
 
   pub calculated-is : (old : Option Float) → Ain.calculated (ain_at h) table_at (kept_of old) ain.bits ≡ calculated h old ain
   unfolding Ain.calculated filtered calculated ain_at
-  calculated-is none = ap (λ (x : Float). filtered (float h 1 16) (kept_of none) x) scaled-is ∙ either_way (eq (float h 1 16) (of_int binary32 (pos 0))) (scaled h ain) _
-  calculated-is (some pv) = ap (λ (x : Float). filtered (float h 1 16) (kept_of (some pv)) x) scaled-is ∙ first_way (eq (float h 1 16) (of_int binary32 (pos 0))) (scaled h ain) _
+  calculated-is None = ap (λ (x : Float). filtered (float h 1 16) (kept_of None) x) scaled-is ∙ either_way (eq (float h 1 16) (of_int binary32 (pos 0))) (scaled h ain) _
+  calculated-is (Some pv) = ap (λ (x : Float). filtered (float h 1 16) (kept_of (Some pv)) x) scaled-is ∙ first_way (eq (float h 1 16) (of_int binary32 (pos 0))) (scaled h ain) _
 
   input-is : (old : Option Float) → Ain.input_of (ain_at h) table_at (kept_of old) ain.bits ain.status ≡ input_from (ain_bad h old ain)
   unfolding Ain.input_of ain_bad
@@ -193,24 +191,24 @@ module _ (h : History Event) (fed : Fed) where
     unfolding Ain.fail_safe_out ain_sensed
     ain-fail-safe bad =
         (λ i. as_pair (fail_safe_pair 0 (code h 1 17) (bits_of (float h 1 18)) (kept-is (last_usable analog_in h) i) (there-is analog_in (finite (scaled h ain)) (scaled h ain) i) (given 1 h).bits bad))
-        ∙ fail-safe-is analog_in h old (cond (finite (scaled h ain)) (some (scaled h ain)) none) bad
+        ∙ fail-safe-is analog_in h old (cond (finite (scaled h ain)) (Some (scaled h ain)) None) bad
       where
         kept-is : (o : Option Float) → present (kept_of o).some (bits_of (kept_of o).value) ≡ worded analog_in o
-        kept-is none = refl
-        kept-is (some x) = refl
+        kept-is None = refl
+        kept-is (Some x) = refl
 
     -- an Auto tick in the rules' terms
     abbrev worked : ℕ → Option ℕ → AinState
     worked m bad = record {
       out = sensed_auto analog_in h (ain_sensed h fed) bad;
       mode = m;
-      filter = kept_of (if_usable bad (some (calculated h (filter_value h) ain)) (filter_value h));
-      last = kept_of (if_usable bad (some (calculated h (filter_value h) ain)) (last_usable analog_in h));
+      filter = kept_of (if_usable bad (Some (calculated h (filter_value h) ain)) (filter_value h));
+      last = kept_of (if_usable bad (Some (calculated h (filter_value h) ain)) (last_usable analog_in h));
       operator = operator 1 h;
       alarms = alarms_of (ain_at h) (alarms_at h) (float_of (sensed_auto analog_in h (ain_sensed h fed) bad).bits);
     }
 
-    usable-is : (m : ℕ) → by_bad m none ≡ worked m none
+    usable-is : (m : ℕ) → by_bad m None ≡ worked m None
     unfolding Ain.auto_by Ain.usable_tick ain_sensed ain_at ain_in alarms_at alarms_of alarm_stands rises falls alarm_status alarmed stands_with
     usable-is m = λ i. record {
       out = pair (bits_of (calculated-is (filter_value h) i)) (alarmed h (bits_of (calculated-is (filter_value h) i)) ain.status);
@@ -221,7 +219,7 @@ module _ (h : History Event) (fed : Fed) where
       alarms = alarms_of (ain_at h) (alarms_at h) (float_of (bits_of (calculated-is (filter_value h) i)));
     }
 
-    by-scaled : (m bad : ℕ) → Ain.unusable_tick (ain_at h) (ain_in h) m (scaled h ain) bad ≡ worked m (some bad)
+    by-scaled : (m bad : ℕ) → Ain.unusable_tick (ain_at h) (ain_in h) m (scaled h ain) bad ≡ worked m (Some bad)
     unfolding Ain.unusable_tick ain_at ain_in
     by-scaled m bad = λ i. record {
       out = ain-fail-safe bad i;
@@ -232,7 +230,7 @@ module _ (h : History Event) (fed : Fed) where
       alarms = alarms_of (ain_at h) (alarms_at h) (float_of (ain-fail-safe bad i).bits);
     }
 
-    unusable-is : (m bad : ℕ) → by_bad m (some bad) ≡ worked m (some bad)
+    unusable-is : (m bad : ℕ) → by_bad m (Some bad) ≡ worked m (Some bad)
     unfolding Ain.auto_by
     unusable-is m bad = ap (λ (x : Float). Ain.unusable_tick (ain_at h) (ain_in h) m x bad) scaled-is ∙ by-scaled m bad
 
@@ -245,8 +243,8 @@ module _ (h : History Event) (fed : Fed) where
       ain-auto e = rw e (auto-is auto ∙ go (ain_bad h (filter_value h) ain))
         where
           go : (bad : Option ℕ) → by_bad auto bad ≡ worked auto bad
-          go none = usable-is auto
-          go (some bad) = unusable-is auto bad
+          go None = usable-is auto
+          go (Some bad) = unusable-is auto bad
 
       ain-man : mode_at h fault 1 ≡ man → ain_tick ≡ Ain.man_tick (ain_at h) (ain_in h)
       unfolding Ain.tick_by
@@ -260,8 +258,8 @@ module _ (h : History Event) (fed : Fed) where
       pub ain-is : IsMode (mode_at h fault 1) → ain_tick ≡ record {
         out = cond (eqb (mode_at h fault 1) out_of_service) (held (given 1 h)) (senses analog_in h fault fed);
         mode = mode_at h fault 1;
-        filter = kept_of (cond (eqb (mode_at h fault 1) auto) (if_usable (ain_bad h (filter_value h) ain) (some (calculated h (filter_value h) ain)) (filter_value h)) none);
-        last = kept_of (cond (eqb (mode_at h fault 1) auto) (if_usable (ain_bad h (filter_value h) ain) (some (calculated h (filter_value h) ain)) (last_usable analog_in h)) (last_usable analog_in h));
+        filter = kept_of (cond (eqb (mode_at h fault 1) auto) (if_usable (ain_bad h (filter_value h) ain) (Some (calculated h (filter_value h) ain)) (filter_value h)) None);
+        last = kept_of (cond (eqb (mode_at h fault 1) auto) (if_usable (ain_bad h (filter_value h) ain) (Some (calculated h (filter_value h) ain)) (last_usable analog_in h)) (last_usable analog_in h));
         operator = operator 1 h;
         alarms = cond (eqb (mode_at h fault 1) out_of_service) no_alarms (alarms_of (ain_at h) (alarms_at h) (float_of (senses analog_in h fault fed).bits));
       }
@@ -296,18 +294,18 @@ module _ (h : History Event) (fed : Fed) (old : (given 4 h).bits ≡ old_out 4 h
   unfolding Di.fail_safe_out di_at di_sensed inverted
   di-fail-safe bad = ap discrete (
       (λ i. as_pair (fail_safe_pair 0 (code h 4 20) (value-is (code h 4 21) small i) (byte-is (last_usable discrete_in h) i) (there-is discrete_in (is_bit v) (exchanged (code h 4 15) v) i) (given 4 h).bits bad))
-      ∙ fail-safe-is discrete_in h old (cond (is_bit v) (some (exchanged (code h 4 15) v)) none) bad)
+      ∙ fail-safe-is discrete_in h old (cond (is_bit v) (Some (exchanged (code h 4 15) v)) None) bad)
     where
       byte-is : (o : Option ℕ) → present (byte_of o).some (byte_of o).value ≡ worded discrete_in o
-      byte-is none = refl
-      byte-is (some x) = refl
+      byte-is None = refl
+      byte-is (Some x) = refl
 
   -- an Auto tick in the rules' terms
   abbrev contact : ℕ → Option ℕ → DiState
   contact m bad = record {
     out = discrete (sensed_auto discrete_in h (di_sensed h fed) bad);
     mode = m;
-    last = byte_of (if_usable bad (some (di_sensed h fed).value) (last_usable discrete_in h));
+    last = byte_of (if_usable bad (Some (di_sensed h fed).value) (last_usable discrete_in h));
     operator = discrete (operator 4 h);
   }
 
@@ -316,8 +314,8 @@ module _ (h : History Event) (fed : Fed) (old : (given 4 h).bits ≡ old_out 4 h
   di-auto m = ap (Di.auto_by (di_at h) (di_in h) m v fed.di.status) di-input ∙ go (di_sensed h fed).bad
     where
       go : (bad : Option ℕ) → Di.auto_by (di_at h) (di_in h) m v fed.di.status (input_from bad) ≡ contact m bad
-      go none = unfold Di.auto_by Di.usable_tick di_sensed di_at di_in inverted in refl
-      go (some bad) = unfold Di.auto_by Di.unusable_tick di_in in (λ i. record { out = di-fail-safe bad i; mode = m; last = byte_of (last_usable discrete_in h); operator = discrete (operator 4 h) })
+      go None = unfold Di.auto_by Di.usable_tick di_sensed di_at di_in inverted in refl
+      go (Some bad) = unfold Di.auto_by Di.unusable_tick di_in in (λ i. record { out = di-fail-safe bad i; mode = m; last = byte_of (last_usable discrete_in h); operator = discrete (operator 4 h) })
 
   module _ (fault : Bool) where
     abbrev m : ℕ
@@ -327,7 +325,7 @@ module _ (h : History Event) (fed : Fed) (old : (given 4 h).bits ≡ old_out 4 h
     pub di-is : IsMode m → Di.tick_by (di_at h) (di_in h) m v fed.di.status ≡ record {
       out = discrete (cond (eqb m out_of_service) (held (given 4 h)) (senses discrete_in h fault fed));
       mode = m;
-      last = byte_of (cond (eqb m auto) (if_usable (di_sensed h fed).bad (some (di_sensed h fed).value) (last_usable discrete_in h)) (last_usable discrete_in h));
+      last = byte_of (cond (eqb m auto) (if_usable (di_sensed h fed).bad (Some (di_sensed h fed).value) (last_usable discrete_in h)) (last_usable discrete_in h));
       operator = discrete (operator 4 h);
     }
     unfolding Di.tick_by senses
@@ -342,50 +340,50 @@ module _ (h : History Event) (tot : Pair) where
   unfolding Tot.input_of tot_bad
   tot-input = status-is tot.status (finite (float_of tot.bits)) true
 
-  rate-is : Tot.tick_rate (kept_of (rate_value h)) tot.bits tot.status ≡ kept_of (if_usable (tot_bad tot) (some (float_of tot.bits)) (rate_value h))
+  rate-is : Tot.tick_rate (kept_of (rate_value h)) tot.bits tot.status ≡ kept_of (if_usable (tot_bad tot) (Some (float_of tot.bits)) (rate_value h))
   unfolding Tot.tick_rate
   rate-is = ap (Tot.last_rate (kept_of (rate_value h)) (float_of tot.bits)) tot-input ∙ go (tot_bad tot)
     where
-      go : (bad : Option ℕ) → Tot.last_rate (kept_of (rate_value h)) (float_of tot.bits) (input_from bad) ≡ kept_of (if_usable bad (some (float_of tot.bits)) (rate_value h))
-      go none = refl
-      go (some bad) = refl
+      go : (bad : Option ℕ) → Tot.last_rate (kept_of (rate_value h)) (float_of tot.bits) (input_from bad) ≡ kept_of (if_usable bad (Some (float_of tot.bits)) (rate_value h))
+      go None = refl
+      go (Some bad) = refl
 
   kept-adds : (rate : Option Float) → Tot.adds (code h 2 14) (kept_of rate) ≡ adds h rate
   unfolding Tot.adds wanted wanted_by
-  kept-adds none = refl
-  kept-adds (some x) = refl
+  kept-adds None = refl
+  kept-adds (Some x) = refl
 
   adds-is : Tot.tick_adds (code h 2 14) (code h 2 15) (kept_of (rate_value h)) tot.bits tot.status ≡ adds h (added_rate h tot (tot_bad tot))
   unfolding Tot.tick_adds Tot.fail_rate
-  adds-is = ap (λ (i : Input). Tot.adds (code h 2 14) (Tot.added_rate (code h 2 15) (kept_of (rate_value h)) (float_of tot.bits) i)) tot-input ∙ go (tot_bad tot)
+  adds-is = ap (λ (i : InputStatus). Tot.adds (code h 2 14) (Tot.added_rate (code h 2 15) (kept_of (rate_value h)) (float_of tot.bits) i)) tot-input ∙ go (tot_bad tot)
     where
-      fail : (run hold fine : Bool) → cond run (cond fine (Common.kept (float_of tot.bits)) Common.none) (cond hold Common.none (kept_of (rate_value h))) ≡ kept_of (cond run (cond fine (some (float_of tot.bits)) none) (cond hold none (rate_value h)))
+      fail : (run hold fine : Bool) → cond run (cond fine (Common.kept (float_of tot.bits)) Common.none) (cond hold Common.none (kept_of (rate_value h))) ≡ kept_of (cond run (cond fine (Some (float_of tot.bits)) None) (cond hold None (rate_value h)))
       fail true hold true = refl
       fail true hold false = refl
       fail false true fine = refl
       fail false false fine = refl
 
       go : (bad : Option ℕ) → Tot.adds (code h 2 14) (Tot.added_rate (code h 2 15) (kept_of (rate_value h)) (float_of tot.bits) (input_from bad)) ≡ adds h (added_rate h tot bad)
-      go none = kept-adds (some (float_of tot.bits))
-      go (some bad) = ap (Tot.adds (code h 2 14)) (fail (eqb (code h 2 15) 0) (eqb (code h 2 15) 1) (finite (float_of tot.bits))) ∙ kept-adds (added_rate h tot (some bad))
+      go None = kept-adds (Some (float_of tot.bits))
+      go (Some bad) = ap (Tot.adds (code h 2 14)) (fail (eqb (code h 2 15) 0) (eqb (code h 2 15) 1) (finite (float_of tot.bits))) ∙ kept-adds (added_rate h tot (Some bad))
 
   tot-status : Tot.tick_status (code h 2 13) (code h 2 15) (kept_of (rate_value h)) tot.bits tot.status ≡ tot_status h tot.status (tot_bad tot)
   unfolding Tot.tick_status Tot.fail_status
   tot-status = ap (Tot.auto_status (code h 2 13) (code h 2 15) (kept_of (rate_value h)) tot.status) tot-input ∙ go (tot_bad tot)
     where
       memory : Option Float → ℕ
-      memory none = 0x4c
-      memory (some rate) = 0x44
+      memory None = 0x4c
+      memory (Some rate) = 0x44
 
       by : (bad : ℕ) (run hold : Bool) (o : Option Float) → cond run bad (cond hold 0x40 (cond (kept_of o).some 0x44 0x4c)) ≡ cond run bad (cond hold 0x40 (memory o))
       by bad true hold o = refl
       by bad false true o = refl
-      by bad false false none = refl
-      by bad false false (some x) = refl
+      by bad false false None = refl
+      by bad false false (Some x) = refl
 
       go : (bad : Option ℕ) → Tot.auto_status (code h 2 13) (code h 2 15) (kept_of (rate_value h)) tot.status (input_from bad) ≡ tot_status h tot.status bad
-      go none = refl
-      go (some bad) = by bad (not (eqb (code h 2 13) 0) || eqb (code h 2 15) 0) (eqb (code h 2 15) 1) (rate_value h)
+      go None = refl
+      go (Some bad) = by bad (not (eqb (code h 2 13) 0) || eqb (code h 2 15) 0) (eqb (code h 2 15) 1) (rate_value h)
 
   -- SET_TOT is 0, 1 or 2
   set_cases : (n : ℕ) → n ≤ 2 → (n ≡ 0) ⊎ ((n ≡ 1) ⊎ (n ≡ 2))
@@ -425,7 +423,7 @@ module _ (h : History Event) (tot : Pair) where
         total = total_by h tot (total h);
         out = pair (bits_of (value_given (total_by h tot (total h)))) (tot_status h tot.status (tot_bad tot));
         mode = auto;
-        rate = kept_of (if_usable (tot_bad tot) (some (float_of tot.bits)) (rate_value h));
+        rate = kept_of (if_usable (tot_bad tot) (Some (float_of tot.bits)) (rate_value h));
         operator_status = (operator 2 h).status;
       }
 
@@ -452,7 +450,7 @@ module _ (h : History Event) (tot : Pair) where
         total = cond (eqb (mode_at h fault 2) auto) (total_by h tot (total h)) (total h);
         out = cond (eqb (mode_at h fault 2) out_of_service) (held (given 2 h)) (tot_gives h fault tot);
         mode = mode_at h fault 2;
-        rate = kept_of (cond (eqb (mode_at h fault 2) auto) (if_usable (tot_bad tot) (some (float_of tot.bits)) (rate_value h)) (rate_value h));
+        rate = kept_of (cond (eqb (mode_at h fault 2) auto) (if_usable (tot_bad tot) (Some (float_of tot.bits)) (rate_value h)) (rate_value h));
         operator_status = (operator 2 h).status;
       }
       unfolding tot_gives tot_in Tot.man_tick Tot.out_of_service_tick given_bits

@@ -1,14 +1,13 @@
 -- The calls of a history and what is seen of them, document 01, Calls on the device and History rules, and document 02, request 1.
 -- Assumes nothing.
-use Rattle.std.specs.Prelude.{ℕ, ◌^◌, Bool, true, ◌&&◌, List, [], ◌∷◌, ltb, Ok, Err}
+use Rattle.std.specs.Prelude.{ℕ, ◌^◌, Bool, true, ◌&&◌, List, [], ◌∷◌, ltb, Result, Ok, Err, Float}
+use Rattle.wire.specs.declared.Refusal.{Refusal}
 use Rattle.wire.specs.declared.Pair.{Pair}
 use Rattle.wire.specs.declared.Discrete.{Discrete}
-use Rattle.ao.specs.declared.Order.{Order}
-use Rattle.dout.specs.declared.Order.{Order as OrderD}
+use Rattle.blocks.specs.declared.setpoint.Order.{Order}
 use Rattle.parameters.specs.declared.Words.{Words}
 use Rattle.device.specs.declared.Device.{Device}
 use Rattle.device.specs.Calls.{Ticked}
-use Rattle.device.specs.Read.{Reading}
 use Rattle.device.specs.Factory.{factory_device}
 use Rattle.device.specs.Read.{read_of}
 use Rattle.device.specs.Calls.{write_of, tick_of, telegram_of, load_of, warm_started}
@@ -47,8 +46,8 @@ pub record Seen : Type 0 where
   pub ao : Words
   pub di : Words
   pub dout : Words
-  pub order : Order
-  pub order_d : OrderD
+  pub order : Order Float
+  pub order_d : Order ℕ
 
 -- R2: what the rules see of a call
 pub data Event : Type 0 where
@@ -61,7 +60,7 @@ pub data Event : Type 0 where
 abbrev pub words : ℕ → ℕ → Words
 words a b = record { first = a; second = b }
 
-abbrev pub read : Reading → Words
+abbrev pub read : Result Words Refusal → Words
 read (Ok w) = w
 read (Err r) = words 0 0
 

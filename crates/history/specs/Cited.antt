@@ -1,8 +1,7 @@
 -- What the rules cite stands on both sides of the claim. So each cited definition is pinned here, beside A to I, and with them the numbers of answers and
 -- the parts of an image: as a formula for all values, in the kit's operations, and by points worked by hand from documents 01 and 02. The rules' lists are
 -- compared with the table. Code and a cited definition changed together are refused here. Assumes nothing.
-use Rattle.std.specs.Prelude.{ℕ, suc, ◌+◌, ◌-◌, ◌*◌, ◌/◌, ◌%◌, ◌^◌, min, ◌≡◌, Bool, true, false, not, ◌&&◌, ◌||◌, cond, List, [], ◌∷◌, ◌++◌, eqb, leb, ℤ, pos, negsuc, neg_ℤ, ◌+ℤ◌, Float, length, take, drop, Ok}
-use Rattle.std.proofs.Math.Option.{Option}
+use Rattle.std.specs.Prelude.{ℕ, suc, ◌+◌, ◌-◌, ◌*◌, ◌/◌, ◌%◌, ◌^◌, min, ◌≡◌, Bool, true, false, not, ◌&&◌, ◌||◌, cond, List, [], ◌∷◌, ◌++◌, eqb, leb, ℤ, pos, negsuc, neg_ℤ, ◌+ℤ◌, Float, length, take, drop, Ok, Some}
 use Rattle.std.specs.Float.{nan, inf, fin, binary32}
 use Rattle.std.specs.Float.Ieee.{of_int, of_bits, to_bits, add, sub, mul, div, le, ne, size, to_signed}
 use Rattle.std.specs.Float.Ieee.Scale.{finite}
@@ -17,7 +16,7 @@ use Rattle.wire.specs.Status.{quality_of, sub_status_of, limits_of}
 use Rattle.wire.specs.Bytes.{five_bytes, pair_of, two_bytes, discrete_of}
 use Rattle.wire.specs.Image.{part_of, part_place}
 use Rattle.tot.specs.Total.{increment_of, thousandths_of, sum_of, value_given}
-use Rattle.dout.specs.declared.Order.{Order as OrderD}
+use Rattle.blocks.specs.declared.setpoint.Order.{Order}
 use Rattle.parameters.specs.declared.Words.{Words}
 use Rattle.parameters.specs.declared.Class.{Class}
 use Rattle.parameters.specs.declared.Class.TheVariants.{S, N, D, R}
@@ -256,8 +255,8 @@ pub record Cited : Type 0 where
   pub closing : ao_scaled (scales ▷ wrote 3 36 1 0) (whole 15) ≡ float_of 0x40d8_0000
   pub input : scaled scales (pair 0x4170_0000 0x80) ≡ float_of 0x4134_0000
   -- from 12 to 0, by 6: 12 − 2; and from 0 to 12: 2
-  pub down : calculated filters (Option.some (whole 12)) (pair 0 0x80) ≡ whole 10
-  pub up : calculated filters (Option.some (whole 0)) (pair 0x4140_0000 0x80) ≡ whole 2
+  pub down : calculated filters (Some (whole 12)) (pair 0 0x80) ≡ whole 10
+  pub up : calculated filters (Some (whole 0)) (pair 0x4140_0000 0x80) ≡ whole 2
   -- 10^7 × 100 is the end; the next single and the largest one go no further, either way. 9,999,999 × 100 rounds to 999,999,872, 0.29's single × 100 to 29
   pub increments : (increment_of (whole 10_000_000) ≡ pos (10 ^ 9)) × (increment_of (whole 10_000_001) ≡ pos (10 ^ 9))
       × (increment_of (float_of largest) ≡ pos (10 ^ 9))
@@ -308,13 +307,13 @@ pub record Cited : Type 0 where
       × (part_place place s block ≡ cond (leb 19 (length s) && leb 1 block && leb block 5)
       (place.0, cond (leb block 3) (5 * (block - 1)) (15 + 2 * (block - 4)) + place.1) place)
   -- Q3.3, Q3.5: fresh DO gives FSAFE_VAL_D, 0 with 0x48, and goes there; under INVERT 1 to 1
-  pub sluice : (fed : Fed) (seen : Seen) → (given 5 (start ▷ ticked false fed seen) ≡ pair 0 0x48) × (order_d start false ≡ OrderD.Position 0)
-      × (given 5 (start ▷ wrote 5 15 1 0 ▷ ticked false fed seen) ≡ pair 1 0x48) × (order_d (start ▷ wrote 5 15 1 0) false ≡ OrderD.Position 1)
+  pub sluice : (fed : Fed) (seen : Seen) → (given 5 (start ▷ ticked false fed seen) ≡ pair 0 0x48) × (order_d start false ≡ Order.Position 0)
+      × (given 5 (start ▷ wrote 5 15 1 0 ▷ ticked false fed seen) ≡ pair 1 0x48) × (order_d (start ▷ wrote 5 15 1 0) false ≡ Order.Position 1)
   -- Q3.4b, Q3.7: on SP_D 1 with 0x80 is a setpoint; 5 with 0x80 counts for nothing, and 5 with 0xA0 is IFS
-  pub sluiced : (order_d (start ▷ telegram 2 (1 ∷ 0x80 ∷ [])) false ≡ OrderD.Position 1)
-      × (order_d (start ▷ telegram 2 (1 ∷ 0x80 ∷ []) ▷ telegram 2 (5 ∷ 0x80 ∷ [])) false ≡ OrderD.Position 1)
-      × (order_d (start ▷ telegram 2 (1 ∷ 0x80 ∷ []) ▷ telegram 2 (5 ∷ 0xa0 ∷ [])) false ≡ OrderD.Position 0)
-      × (order_d (start ▷ wrote 5 20 2 0 ▷ telegram 2 (1 ∷ 0x80 ∷ []) ▷ telegram 2 (5 ∷ 0xa0 ∷ [])) false ≡ OrderD.Safe)
+  pub sluiced : (order_d (start ▷ telegram 2 (1 ∷ 0x80 ∷ [])) false ≡ Order.Position 1)
+      × (order_d (start ▷ telegram 2 (1 ∷ 0x80 ∷ []) ▷ telegram 2 (5 ∷ 0x80 ∷ [])) false ≡ Order.Position 1)
+      × (order_d (start ▷ telegram 2 (1 ∷ 0x80 ∷ []) ▷ telegram 2 (5 ∷ 0xa0 ∷ [])) false ≡ Order.Position 0)
+      × (order_d (start ▷ wrote 5 20 2 0 ▷ telegram 2 (1 ∷ 0x80 ∷ []) ▷ telegram 2 (5 ∷ 0xa0 ∷ [])) false ≡ Order.Safe)
   -- Q3.4b, Q3.5: DI as it comes, inverted, and fail-safe by FSAFE_VAL_D, which is not; under FSAFE_TYPE 2 another value than 0 and 1 leaves old OUT_D with
   -- 0x04, or with its own Bad byte
   pub contact : (ain tot : Pair) (seen : Seen)

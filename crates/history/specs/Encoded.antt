@@ -1,12 +1,12 @@
 -- A list of calls as bytes, and what the function that replays one promises. The encoding is ours: the paper names none. Assumes nothing.
-use Rattle.std.specs.Prelude.{ℕ, zero, suc, ◌+◌, ◌-◌, ◌*◌, ◌≡◌, cond, List, [], ◌∷◌, eqb, ltb, length, get_or, take, drop, Option, Some, None}
+use Rattle.std.specs.Prelude.{ℕ, zero, suc, ◌+◌, ◌*◌, ◌≡◌, cond, List, [], ◌∷◌, eqb, ltb, length, get_or, take, drop, Option, Some, None, MatchOption, Result, Ok, Err}
+use Rattle.wire.specs.declared.Refusal.{Refusal}
 use Rattle.wire.specs.declared.Pair.{Pair}
 use Rattle.wire.specs.declared.Discrete.{Discrete}
-use Rattle.wire.specs.Bytes.{word_of}
+use Rattle.wire.specs.Bytes.{word_of, pair_of, discrete_of}
 use Rattle.device.specs.declared.Device.{Device}
-use Rattle.history.specs.declared.Step.{Step}
-use Rattle.history.specs.declared.Step.TheVariants.{WarmStart, Tick, Write, Telegram, Load}
-use Rattle.history.specs.declared.Found.{Found}
+use Rattle.history.specs.declared.Call.{Call as CodeCall}
+use Rattle.history.specs.declared.Call.TheVariants.{WarmStart, Tick, Write, Telegram, Load}
 use Rattle.history.specs.Calls.{Call, Event, reached, trace}
 use Rattle.history.specs.Past.{History}
 use Rattle.history.specs.Rules.{accepted}
@@ -14,90 +14,106 @@ use Rattle.history.specs.Claim.{Claim}
 use Rattle.history.specs.Points.{Points}
 use Rattle.history.specs.Cited.{Cited}
 
--- four bytes, highest first, a pair, and a discrete one
-unfoldable pub word_at : List ℕ → ℕ → ℕ
-word_at s at = word_of (get_or s at 0) (get_or s (at + 1) 0) (get_or s (at + 2) 0) (get_or s (at + 3) 0)
+-- what stands in front of bytes, and the bytes behind it
+pub record Read (A : Type 0) : Type 0 where
+  pub value : A
+  pub rest : List ℕ
 
-unfoldable pub pair_at : List ℕ → ℕ → Pair
-pair_at s at = record { bits = word_at s at; status = get_or s (at + 4) 0 }
+module _ {A : Type 0} where
+  abbrev pub read : A → List ℕ → Option (Read A)
+  read value rest = Some (record { value = value; rest = rest })
 
-unfoldable pub discrete_at : List ℕ → ℕ → Discrete
-discrete_at s at = record { value = get_or s at 0; status = get_or s (at + 1) 0 }
+  -- what follows a value that was read; none where none was
+  abbrev pub then_read : {B : Type 0} → Option (Read A) → (A → List ℕ → Option B) → Option B
+  then_read None next = None
+  then_read (Some r) next = next r.value r.rest
 
--- the length of lent bytes: eight bytes
-abbrev pub length_at : List ℕ → ℕ → ℕ
-length_at s at = word_at s at * 0x1_0000_0000 + word_at s (at + 4)
+  abbrev pub unrefused : Result A Refusal → List ℕ → Option (Read A)
+  unrefused (Ok value) rest = read value rest
+  unrefused (Err r) rest = None
 
--- a call, and where the next one starts; none where the bytes are no call
-abbrev pub found : Step → ℕ → Option Found
-found step next = Some (record { step = step; next = next })
+-- what a method of `Reader` gives and leaves, by what stands in front
+module _ {A B : Type 0} where
+  abbrev pub ReadsBy : (A → B) → Option (Read B) → Option A → List ℕ → Type 0
+  ReadsBy view m r left = MatchOption r (m ≡ None) (λ a. m ≡ read (view a) left)
 
--- a tick is fourteen bytes, its fault flag 0 or 1
-unfoldable pub tick_found : List ℕ → ℕ → Option Found
-tick_found s at =
-    cond (ltb (length s - at) 14) None
-    (cond (ltb 1 (get_or s (at + 1) 0)) None
-    (found (Tick (eqb (get_or s (at + 1) 0) 1) (pair_at s (at + 2)) (pair_at s (at + 7)) (discrete_at s (at + 12))) (at + 14)))
+module _ {A : Type 0} where
+  abbrev pub Reads : Option (Read A) → Option A → List ℕ → Type 0
+  Reads = ReadsBy (λ (a : A). a)
 
--- a write is eleven
-unfoldable pub write_found : List ℕ → ℕ → Option Found
-write_found s at =
-    cond (ltb (length s - at) 11) None
-    (found (Write (get_or s (at + 1) 0) (get_or s (at + 2) 0) (word_at s (at + 3)) (word_at s (at + 7))) (at + 11))
+-- n bytes, where there are as many
+unfoldable pub next_bytes : ℕ → List ℕ → Option (Read (List ℕ))
+next_bytes n s = cond (ltb (length s) n) None (read (take n s) (drop n s))
 
--- how many bytes a call lends, behind its first ones and their length; none where they are not there
-unfoldable pub lent_by : List ℕ → ℕ → ℕ → Option ℕ
-lent_by s at head =
-    cond (ltb (length s - at) (head + 8)) None
-    (cond (ltb (length s - at - (head + 8)) (length_at s (at + head))) None (Some (length_at s (at + head))))
+-- a byte, a word, highest byte first, and pairs as on the bus
+unfoldable pub next_byte : List ℕ → Option (Read ℕ)
+next_byte s = then_read (next_bytes 1 s) (λ b. read (get_or b 0 0))
 
-abbrev pub lending : (ℕ → Option Found) → Option ℕ → Option Found
-lending by None = None
-lending by (Some n) = by n
+unfoldable pub next_word : List ℕ → Option (Read ℕ)
+next_word s = then_read (next_bytes 4 s) (λ b. read (word_of (get_or b 0 0) (get_or b 1 0) (get_or b 2 0) (get_or b 3 0)))
 
--- a telegram is ten bytes and those lent
-unfoldable pub telegram_found : List ℕ → ℕ → Option Found
-telegram_found s at = lending (λ n. found (Telegram (get_or s (at + 1) 0) n) (at + 10 + n)) (lent_by s at 2)
+unfoldable pub next_pair : List ℕ → Option (Read Pair)
+next_pair s = then_read (next_bytes 5 s) (λ b. unrefused (pair_of b))
 
--- a load nine
-unfoldable pub load_found : List ℕ → ℕ → Option Found
-load_found s at = lending (λ n. found (Load n) (at + 9 + n)) (lent_by s at 1)
+unfoldable pub next_discrete : List ℕ → Option (Read Discrete)
+next_discrete s = then_read (next_bytes 2 s) (λ b. unrefused (discrete_of b))
 
--- the call at a place
-unfoldable pub step_at : List ℕ → ℕ → Option Found
-step_at s at =
-    cond (eqb (get_or s at 0) 0) (found WarmStart (at + 1))
-    (cond (eqb (get_or s at 0) 1) (tick_found s at)
-    (cond (eqb (get_or s at 0) 2) (write_found s at)
-    (cond (eqb (get_or s at 0) 3) (telegram_found s at)
-    (cond (eqb (get_or s at 0) 4) (load_found s at) None))))
+-- lent bytes: their length, eight bytes, and they
+unfoldable pub next_lent : List ℕ → Option (Read (List ℕ))
+next_lent s = then_read (next_word s) (λ high s. then_read (next_word s) (λ low. next_bytes (high * 0x1_0000_0000 + low)))
 
--- the call that it is; a telegram's bytes start ten places on, a load's nine
-abbrev pub call_of : List ℕ → ℕ → Step → Call
-call_of s at WarmStart = Call.warm_start
-call_of s at (Tick fault ain tot di) = Call.tick fault (record { ain = ain; tot = tot; di = di })
-call_of s at (Write block number a b) = Call.write block number a b
-call_of s at (Telegram input n) = Call.telegram input (take n (drop (at + 10) s))
-call_of s at (Load n) = Call.load (take n (drop (at + 9) s))
+-- a tick: its fault flag, 0 or 1, and what it is fed
+unfoldable pub next_tick : List ℕ → Option (Read Call)
+next_tick s =
+    then_read (next_byte s) (λ fault s. cond (ltb 1 fault) None
+    (then_read (next_pair s) (λ ain s. then_read (next_pair s) (λ tot s. then_read (next_discrete s) (λ di.
+    read (Call.tick (eqb fault 1) (record { ain = ain; tot = tot; di = di })))))))
+
+unfoldable pub next_write : List ℕ → Option (Read Call)
+next_write s =
+    then_read (next_byte s) (λ block s. then_read (next_byte s) (λ number s.
+    then_read (next_word s) (λ a s. then_read (next_word s) (λ b. read (Call.write block number a b)))))
+
+unfoldable pub next_telegram : List ℕ → Option (Read Call)
+next_telegram s = then_read (next_byte s) (λ input s. then_read (next_lent s) (λ bytes. read (Call.telegram input bytes)))
+
+unfoldable pub next_load : List ℕ → Option (Read Call)
+next_load s = then_read (next_lent s) (λ bytes. read (Call.load bytes))
+
+-- a call: a byte that says which, and its arguments
+abbrev pub arguments : ℕ → List ℕ → Option (Read Call)
+arguments kind s =
+    cond (eqb kind 0) (read Call.warm_start s)
+    (cond (eqb kind 1) (next_tick s)
+    (cond (eqb kind 2) (next_write s)
+    (cond (eqb kind 3) (next_telegram s)
+    (cond (eqb kind 4) (next_load s) None))))
+
+unfoldable pub next_call : List ℕ → Option (Read Call)
+next_call s = then_read (next_byte s) arguments
+
+-- a call of the code, without where its bytes lie
+abbrev pub called : CodeCall → Call
+called WarmStart = Call.warm_start
+called (Tick fault ain tot di) = Call.tick fault (record { ain = ain; tot = tot; di = di })
+called (Write block number a b) = Call.write block number a b
+called (Telegram input bytes) = Call.telegram input bytes.now
+called (Load bytes) = Call.load bytes.now
 
 abbrev pub more : Call → Option (List Call) → Option (List Call)
 more c None = None
 more c (Some cs) = Some (c ∷ cs)
 
--- what follows a call that was found; none where none was
-abbrev pub following : {A : Type 0} → (Found → Option A) → Option Found → Option A
-following by None = None
-following by (Some f) = by f
-
--- the calls from a place on, at most so many; none where one is malformed
-unfoldable pub calls_from : ℕ → List ℕ → ℕ → Option (List Call)
-calls_from zero s at = cond (ltb at (length s)) None (Some [])
-calls_from (suc left) s at =
-    cond (ltb at (length s)) (following (λ f. more (call_of s at f.step) (calls_from left s f.next)) (step_at s at)) (Some [])
+-- the calls of the bytes, at most so many; none where one is malformed
+unfoldable pub calls_in : ℕ → List ℕ → Option (List Call)
+calls_in zero [] = Some []
+calls_in zero (b ∷ s) = None
+calls_in (suc left) [] = Some []
+calls_in (suc left) (b ∷ s) = then_read (next_call (b ∷ s)) (λ c s. more c (calls_in left s))
 
 -- the list of calls that the bytes stand for: a call has at least one byte
 unfoldable pub decoded : List ℕ → Option (List Call)
-decoded s = calls_from (length s) s 0
+decoded s = calls_in (length s) s
 
 -- what `replay` promises of the bytes it is lent and what it hands back
 pub record Replays (s : List ℕ) (r : Option Device) : Type 0 where

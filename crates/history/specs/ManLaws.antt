@@ -1,10 +1,9 @@
 -- What request 2 of document 02 comes to, for AIN, AO, DI and DO alike (Q3.8a): what was last given stands in Man; over the rules, and of every device.
 -- Assumes nothing.
 use Prim.Native.Nat.{ℕ}
-use Rattle.std.specs.Prelude.{◌≡◌, Bool, false, ◌⊎◌, eqb}
+use Rattle.std.specs.Prelude.{◌≡◌, Bool, false, ◌⊎◌, eqb, None, Some}
 use Rattle.std.proofs.Math.Path.{refl, ap}
 use Rattle.std.proofs.Common.{sym, ◌∙◌, subst, true≢false, inl, inr}
-use Rattle.std.proofs.Math.Option.{none, some}
 use Rattle.numbers.specs.Floats.{float_of}
 use Rattle.wire.specs.declared.Pair.{Pair}
 use Rattle.wire.specs.Refusal.{granted}
@@ -12,11 +11,10 @@ use Rattle.wire.specs.declared.Discrete.{Discrete}
 use Rattle.blocks.specs.Common.{actual_mode, operator_after}
 use Rattle.blocks.specs.FailSafe.{by_mode}
 use Rattle.ain.specs.Tick as Ain
-use Rattle.ao.specs.declared.Order.TheVariants.{Position}
+use Rattle.blocks.specs.declared.setpoint.Order.TheVariants.{Position}
 use Rattle.ao.specs.State.{operated_by}
 use Rattle.ao.specs.Tick as Ao
 use Rattle.di.specs.Tick as Di
-use Rattle.dout.specs.declared.Order.{Order as OrderD}
 use Rattle.dout.specs.State.{operated_by as operated_dout}
 use Rattle.dout.specs.Tick as Dout
 use Rattle.parameters.specs.Table.{ain, ao, di, dout, discrete, entry_in, entry_of}
@@ -46,7 +44,7 @@ operated-each P ain ao di dout block (inr (inr (inr e))) = subst P (sym e) dout
 
 -- between an entry into Man and the tick: no start, no write of OUT, no other entry
 abbrev pub HandsNothing : ℕ → History Event → Event → Type 0
-HandsNothing block h e = (is_start e ≡ false) × (handed block h e ≡ none)
+HandsNothing block h e = (is_start e ≡ false) × (handed block h e ≡ None)
 
 -- between two places of a history: writes, telegrams and loads alone
 abbrev pub NoTickNoStart : History Event → Event → Type 0
@@ -54,11 +52,11 @@ NoTickNoStart h e = (is_tick e ≡ false) × (is_start e ≡ false)
 
 module _ (block : ℕ) (operated : Operated block) where
   -- Q2.4: a write that changes the target to Man hands what was last given to the operator
-  entry : (h : History Event) (b : ℕ) → eqb (code h block 5) man ≡ false → handed block h (wrote block 5 man b) ≡ some (last_out block h)
+  entry : (h : History Event) (b : ℕ) → eqb (code h block 5) man ≡ false → handed block h (wrote block 5 man b) ≡ Some (last_out block h)
   entry h b = operated-each Hands (λ other. rw other) (λ other. rw other) (λ other. rw other) (λ other. rw other) block operated
     where
       Hands : ℕ → Type 0
-      Hands block = eqb (code h block 5) man ≡ false → handed block h (wrote block 5 man b) ≡ some (last_out block h)
+      Hands block = eqb (code h block 5) man ≡ false → handed block h (wrote block 5 man b) ≡ Some (last_out block h)
 
   -- and so it stands as the operator's until another is handed
   pub entered : (h h' : History Event) (b : ℕ) → eqb (code h block 5) man ≡ false → From (HandsNothing block) (h ▷ wrote block 5 man b) h'
@@ -130,7 +128,7 @@ pub man-stays : (d : Device) (b : ℕ) (x y : Pair) (z : Discrete)
     → (eqb d.ao.settings.target man ≡ false → (write_of d 3 5 man b).answer ≡ granted
     → (tick_of (write_of d 3 5 man b).device false x y z).order ≡ Position (float_of d.ao.state.out.bits))
     × (eqb d.dout.settings.target man ≡ false → (write_of d 5 5 man b).answer ≡ granted
-    → (tick_of (write_of d 5 5 man b).device false x y z).order_d ≡ OrderD.Position d.dout.state.out.value)
+    → (tick_of (write_of d 5 5 man b).device false x y z).order_d ≡ Position d.dout.state.out.value)
 unfolding tick_of stored_in ao_written dout_written ao_settings dout_settings operator_by entered_by operator_after actual_mode
     Ao.tick_of Ao.ticked_with Ao.given_in
     Dout.tick_of Dout.ticked_with Dout.given_in by_mode operated_by operated_dout

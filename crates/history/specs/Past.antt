@@ -1,7 +1,6 @@
 -- Past-time words over a history of events, oldest on the left: in `h ▷ e` the event e came after all of h. Each word is a short recursion; what the words
 -- mean is proved in `PastLaws`. Assumes nothing.
-use Rattle.std.specs.Prelude.{ℕ, ◌+◌, Bool, false, not, ◌&&◌, ◌||◌, cond}
-use Rattle.std.proofs.Math.Option.{Option, none, some}
+use Rattle.std.specs.Prelude.{ℕ, ◌+◌, Bool, false, not, ◌&&◌, ◌||◌, cond, Option, None, Some}
 
 infixl 20 ◌▷◌
 pub data History (E : Type 0) : Type 0 where
@@ -9,8 +8,8 @@ pub data History (E : Type 0) : Type 0 where
   ◌▷◌ : History E → E → History E
 
 abbrev pub told : {A : Type 0} → Option A → Option A → Option A
-told none old = old
-told (some a) old = some a
+told None old = old
+told (Some a) old = Some a
 
 module _ {E : Type 0} where
   -- how many events pass
@@ -30,8 +29,8 @@ module _ {E : Type 0} where
 
   -- what the latest event that tells something tells, by what was before it, forgotten at an event that forgets
   unfoldable pub latest : {A : Type 0} → (History E → E → Option A) → (E → Bool) → History E → Option A
-  latest tells forgets start = none
-  latest tells forgets (h ▷ e) = cond (forgets e) none (told (tells h e) (latest tells forgets h))
+  latest tells forgets start = None
+  latest tells forgets (h ▷ e) = cond (forgets e) None (told (tells h e) (latest tells forgets h))
 
   -- a value that each event may move, by what was before it
   unfoldable pub carried : {A : Type 0} → A → (History E → E → A → A) → History E → A

@@ -1,9 +1,8 @@
 -- What the past-time words mean: there is a place in the history such that .. Assumes nothing.
-use Rattle.std.specs.Prelude.{ℕ, ◌+◌, ◌≡◌, refl, Bool, false, ◌&&◌, ◌||◌, ◌⊎◌}
+use Rattle.std.specs.Prelude.{ℕ, ◌+◌, ◌≡◌, refl, Bool, false, ◌&&◌, ◌||◌, ◌⊎◌, Option, None, Some}
 use Rattle.std.proofs.Common.{sym, ◌∙◌, true≢false, inl, inr}
 use Rattle.std.proofs.Math.Path.{ap}
 use Rattle.std.proofs.Math.Bool.{true, not}
-use Rattle.std.proofs.Math.Option.{Option, none, some}
 use Rattle.history.specs.Past.{History, start, ◌▷◌, count_since, since, latest}
 
 module _ {E : Type 0} where
@@ -68,8 +67,8 @@ module _ {E : Type 0} where
 
   module _ {A : Type 0} (tells : History E → E → Option A) (forgets : E → Bool) where
     -- an event told it, and none since has told anything or forgotten it
-    pub latest-holds : (p : History E) (x : E) (a : A) (h : History E) → forgets x ≡ false → tells p x ≡ some a
-        → From (λ q e. (forgets e ≡ false) × (tells q e ≡ none)) (p ▷ x) h → latest tells forgets h ≡ some a
+    pub latest-holds : (p : History E) (x : E) (a : A) (h : History E) → forgets x ≡ false → tells p x ≡ Some a
+        → From (λ q e. (forgets e ≡ false) × (tells q e ≡ None)) (p ▷ x) h → latest tells forgets h ≡ Some a
     unfolding latest
     latest-holds p x a h n t here = rw (n, t)
     latest-holds p x a h n t (later {h = q} {e = y} f c) = rw (c.0, c.1) (latest-holds p x a q n t f)

@@ -2,8 +2,7 @@
 -- calls, and OUT of AIN and AO and OUT_D of DI and DO as read after each tick. Every memory and every choice is said here. What is cited of other
 -- crates, arithmetic, encodings and the table's allowed words, is listed in tests/cited and pinned in Cited.
 -- A letter and number before a colon is a sentence of the paper, as docs/TRACE.md counts them. Assumes nothing.
-use Rattle.std.specs.Prelude.{ℕ, ◌+◌, ◌%◌, Bool, true, false, not, ◌&&◌, ◌||◌, cond, List, [], ◌∷◌, ◌++◌, eqb, ltb, ℤ, pos, Float, length, drop, Result, Ok, Err}
-use Rattle.std.proofs.Math.Option.{Option, none, some}
+use Rattle.std.specs.Prelude.{ℕ, ◌+◌, ◌%◌, Bool, true, false, not, ◌&&◌, ◌||◌, cond, List, [], ◌∷◌, ◌++◌, eqb, ltb, ℤ, pos, Float, length, drop, Result, Ok, Err, Option, None, Some}
 use Rattle.std.specs.Int.Signed.{lt_z}
 use Rattle.std.specs.Float.{binary32}
 use Rattle.std.specs.Float.Ieee.{of_int, add, sub, mul, div, eq, lt, le}
@@ -21,15 +20,11 @@ use Rattle.wire.specs.Refusal.{ground}
 use Rattle.wire.specs.Status.{quality_of, sub_status_of}
 use Rattle.wire.specs.Bytes.{five_bytes, pair_of, two_bytes, discrete_of}
 use Rattle.tot.specs.Total.{increment_of, thousandths_of, sum_of, value_given}
-use Rattle.ao.specs.declared.Order.{Order}
-use Rattle.ao.specs.declared.Order.TheVariants.{Position, Safe, Rest}
-use Rattle.dout.specs.declared.Order.{Order as OrderD}
+use Rattle.blocks.specs.declared.setpoint.Order.{Order}
+use Rattle.blocks.specs.declared.setpoint.Order.TheVariants.{Position, Safe, Rest}
 use Rattle.parameters.specs.declared.Words.{Words}
-use Rattle.parameters.specs.declared.Entry.{Entry}
-use Rattle.parameters.specs.declared.Entry.TheVariants.{NoBlock, NoParameter, Parameter}
-use Rattle.parameters.specs.Table.{entry_of}
+use Rattle.parameters.specs.Table.{Entry, entry_of}
 use Rattle.parameters.specs.Words.{allows_of}
-use Rattle.device.specs.Read.{Reading}
 use Rattle.history.specs.Past.{History, start, ◌▷◌, count, count_since, since, told, latest, carried}
 use Rattle.history.specs.Calls.{Fed, Seen, Event, ticked, telegram, wrote, loaded, warmed, words}
 
@@ -122,15 +117,15 @@ or_zeros (d ∷ ds) number = cond (eqb number d.number) d.stands (or_zeros ds nu
 
 -- the words that an event writes to a parameter
 abbrev pub words_to : ℕ → ℕ → Event → Option Words
-words_to block number (ticked fault fed seen) = none
-words_to block number (telegram input bytes) = none
-words_to block number (wrote block' number' a b) = cond (eqb block' block && eqb number' number) (some (words a b)) none
-words_to block number (loaded bytes) = none
-words_to block number warmed = none
+words_to block number (ticked fault fed seen) = None
+words_to block number (telegram input bytes) = None
+words_to block number (wrote block' number' a b) = cond (eqb block' block && eqb number' number) (Some (words a b)) None
+words_to block number (loaded bytes) = None
+words_to block number warmed = None
 
 abbrev pub or_else : {A : Type 0} → A → Option A → A
-or_else other none = other
-or_else other (some a) = a
+or_else other None = other
+or_else other (Some a) = a
 
 abbrev pub never : Event → Bool
 never e = false
@@ -153,19 +148,19 @@ scale h block number = record { low = float_of (stored h block number).first; hi
 
 -- the pairs that a load brings
 abbrev pub pairs_told : Event → Option (List Point)
-pairs_told (ticked fault fed seen) = none
-pairs_told (telegram input bytes) = none
-pairs_told (wrote block number a b) = none
-pairs_told (loaded bytes) = some (pairs_in bytes)
-pairs_told warmed = none
+pairs_told (ticked fault fed seen) = None
+pairs_told (telegram input bytes) = None
+pairs_told (wrote block number a b) = None
+pairs_told (loaded bytes) = Some (pairs_in bytes)
+pairs_told warmed = None
 
 -- Q1.9a: the table in force is that of the last accepted load, before one it has no pairs; a warm start leaves it
 unfoldable pub table : History Event → List Point
 table h = or_else [] (latest (λ p. pairs_told) never h)
 
 abbrev pub is_some : {A : Type 0} → Option A → Bool
-is_some none = false
-is_some (some a) = true
+is_some None = false
+is_some (Some a) = true
 
 -- whether a table came
 unfoldable pub tabled : History Event → Bool
@@ -179,8 +174,8 @@ along p (q ∷ qs) x =
     add binary32 p.y (div binary32 (mul binary32 (sub binary32 x p.x) (sub binary32 q.y p.y)) (sub binary32 q.x p.x))
 
 unfoldable pub said : List Point → Float → Option Float
-said [] x = none
-said (p ∷ ps) x = told (said ps x) (cond (le p.x x) (some (along p ps x)) none)
+said [] x = None
+said (p ∷ ps) x = told (said ps x) (cond (le p.x x) (Some (along p ps x)) None)
 
 -- Q1.7: a value below the first x gets the first y
 abbrev pub lowest : List Point → Float → Float
@@ -224,9 +219,8 @@ actual block = carried out_of_service (λ h e old. on_tick (λ fault fed seen. m
 
 -- F7: whether the table's row for a parameter allows two words
 abbrev pub allowed_in : Entry → ℕ → ℕ → Bool
-allowed_in NoBlock a b = false
-allowed_in NoParameter a b = false
-allowed_in (Parameter class allowed) a b = allows_of allowed a b
+allowed_in (Ok p) a b = allows_of p.allowed a b
+allowed_in (Err r) a b = false
 
 abbrev pub refused : ℕ → Answer
 refused n = Err (ground n)
@@ -338,14 +332,14 @@ out_number block = cond (eqb block 3) 37 10
 -- P15: the pair that an event makes the operator's: the words of a write of OUT, TOTAL or OUT_D; Q2.4: at a write of the target that enters Man what
 -- was last given before it
 abbrev pub handed : ℕ → History Event → Event → Option Pair
-handed block h (ticked fault fed seen) = none
-handed block h (telegram input bytes) = none
+handed block h (ticked fault fed seen) = None
+handed block h (telegram input bytes) = None
 handed block h (wrote block' number a b) =
-    cond (not (eqb block' block)) none
-    (cond (eqb number (out_number block)) (some (pair a b))
-    (cond (eqb number 5 && enters_man block (code h block 5) a) (some (last_out block h)) none))
-handed block h (loaded bytes) = none
-handed block h warmed = none
+    cond (not (eqb block' block)) None
+    (cond (eqb number (out_number block)) (Some (pair a b))
+    (cond (eqb number 5 && enters_man block (code h block 5) a) (Some (last_out block h)) None))
+handed block h (loaded bytes) = None
+handed block h warmed = None
 
 -- P15, R17, Q2.6: the operator's pair is the latest of these since start, whichever of the two it was, before one 0 with 0x4C, whatever the target is; of
 -- TOTAL's only the status is used
@@ -358,14 +352,14 @@ operator block h = or_else (pair 0 0x4c) (latest (handed block) is_start h)
 -- value isn't finite, and 0x04 if what is calculated of it isn't. The flags say whether the value, and what is calculated of it, is finite
 unfoldable pub bad_status : ℕ → Bool → Bool → Option ℕ
 bad_status status value calculated =
-    cond (eqb (quality_of status) 3) (some 0x04)
-    (cond (eqb (quality_of status) 0) (some status)
-    (cond (not value) (some 0x10)
-    (cond (not calculated) (some 0x04) none)))
+    cond (eqb (quality_of status) 3) (Some 0x04)
+    (cond (eqb (quality_of status) 0) (Some status)
+    (cond (not value) (Some 0x10)
+    (cond (not calculated) (Some 0x04) None)))
 
 abbrev pub if_usable : {A : Type 0} → Option ℕ → A → A → A
-if_usable none a other = a
-if_usable (some bad) a other = other
+if_usable None a other = a
+if_usable (Some bad) a other = other
 
 -- ---- an input block, AIN or DI, over the type A of its values (Q3.8b)
 
@@ -389,20 +383,20 @@ module _ {A : Type 0} (s : Sensor A) where
   -- A8, R7: what the latest usable Auto tick since start calculated, whatever the modes of later ticks
   unfoldable pub last_usable : History Event → Option A
   last_usable =
-      carried none
+      carried None
       (λ h e old. on_tick
-      (λ fault fed seen. cond (is_auto h fault s.block) (if_usable (s.sensed h fed).bad (some (s.sensed h fed).value) old) old)
-      none old e)
+      (λ fault fed seen. cond (is_auto h fault s.block) (if_usable (s.sensed h fed).bad (Some (s.sensed h fed).value) old) old)
+      None old e)
 
   -- A8: the word of a value, or another word without one
   abbrev pub word_or : ℕ → Option A → ℕ
-  word_or other none = other
-  word_or other (some x) = s.word x
+  word_or other None = other
+  word_or other (Some x) = s.word x
 
   -- A8: the value that was last usable with 0x44, and 0 with 0x4C without one
   abbrev pub last_or : Option A → Pair
-  last_or none = pair 0 0x4c
-  last_or (some x) = pair (s.word x) 0x44
+  last_or None = pair 0 0x4c
+  last_or (Some x) = pair (s.word x) 0x44
 
   -- A8: an Auto tick that isn't usable, by FSAFE_TYPE: 0 gives FSAFE_VALUE with 0x48; 1 the value that was last usable; 2 gives the value as it comes,
   -- or old OUT without one, with the Bad status
@@ -413,8 +407,8 @@ module _ {A : Type 0} (s : Sensor A) where
 
   -- A7, A8: in Auto the calculated value where the input is usable, else the fail-safe
   abbrev pub sensed_auto : History Event → Sensed A → Option ℕ → Pair
-  sensed_auto h x none = pair (s.word x.value) x.status
-  sensed_auto h x (some bad) = sensed_fail_safe h x.comes bad
+  sensed_auto h x None = pair (s.word x.value) x.status
+  sensed_auto h x (Some bad) = sensed_fail_safe h x.comes bad
 
   -- A7, A9: what the block gives in Auto, and in Man: the operator's pair
   unfoldable pub senses : History Event → Bool → Fed → Pair
@@ -433,8 +427,8 @@ scaled h ain = at_fraction (scale h 1 12) (fraction_of (scale h 1 11) (measured 
 -- A2: a filter step from the filter value towards the scaled value, by the ticks in PV_FTIME and one; without a filter value, or with PV_FTIME 0, the
 -- scaled value itself
 abbrev pub filtered_by : Float → Float → Option Float → Float
-filtered_by time x none = x
-filtered_by time x (some pv) =
+filtered_by time x None = x
+filtered_by time x (Some pv) =
     cond (eq time (of_int binary32 (pos 0))) x
     (add binary32 pv (div binary32 (sub binary32 x pv) (add binary32 (mul binary32 time (of_int binary32 (pos 10))) (of_int binary32 (pos 1)))))
 
@@ -449,10 +443,10 @@ ain_bad h filter ain = bad_status ain.status (finite (float_of ain.bits)) (finit
 -- A3, R7: the filter value is what the latest usable Auto tick calculated, if no tick in another mode and no start came since
 unfoldable pub filter_value : History Event → Option Float
 filter_value =
-    carried none
+    carried None
     (λ h e old. on_tick
-    (λ fault fed seen. cond (is_auto h fault 1) (if_usable (ain_bad h old fed.ain) (some (calculated h old fed.ain)) old) none)
-    none old e)
+    (λ fault fed seen. cond (is_auto h fault 1) (if_usable (ain_bad h old fed.ain) (Some (calculated h old fed.ain)) old) None)
+    None old e)
 
 -- an alarm: whether it is a low one, and its limit's parameter
 pub record Alarm : Type 0 where
@@ -518,7 +512,7 @@ unfoldable pub ain_sensed : History Event → Fed → Sensed Float
 ain_sensed h fed = record {
   bad = ain_bad h (filter_value h) fed.ain;
   value = calculated h (filter_value h) fed.ain;
-  comes = cond (finite (scaled h fed.ain)) (some (scaled h fed.ain)) none;
+  comes = cond (finite (scaled h fed.ain)) (Some (scaled h fed.ain)) None;
   status = alarmed h (bits_of (calculated h (filter_value h) fed.ain)) fed.ain.status;
 }
 
@@ -540,7 +534,7 @@ unfoldable pub di_sensed : History Event → Fed → Sensed ℕ
 di_sensed h fed = record {
   bad = bad_status fed.di.status true (is_bit fed.di.value);
   value = exchanged (code h 4 15) fed.di.value;
-  comes = cond (is_bit fed.di.value) (some (exchanged (code h 4 15) fed.di.value)) none;
+  comes = cond (is_bit fed.di.value) (Some (exchanged (code h 4 15) fed.di.value)) None;
   status = fed.di.status;
 }
 
@@ -557,8 +551,8 @@ tot_bad tot = bad_status tot.status (finite (float_of tot.bits)) true
 -- T7, R7: the rate of the latest usable Auto tick since start
 unfoldable pub rate_value : History Event → Option Float
 rate_value =
-    carried none (λ h e old. on_tick
-    (λ fault fed seen. cond (is_auto h fault 2) (if_usable (tot_bad fed.tot) (some (float_of fed.tot.bits)) old) old) none old e)
+    carried None (λ h e old. on_tick
+    (λ fault fed seen. cond (is_auto h fault 2) (if_usable (tot_bad fed.tot) (Some (float_of fed.tot.bits)) old) old) None old e)
 
 -- T3, P12c: MODE_TOT 0 takes an increment of either sign, 1 those not below 0, 2 those below 0, 3 none
 unfoldable pub wanted_by : ℕ → ℤ → ℤ
@@ -567,15 +561,15 @@ wanted_by mode z = cond (eqb mode 0 || eqb mode 1 && not (lt_z z (pos 0)) || eqb
 -- T6, T7: the rate that an Auto tick adds by: the input's where it is usable, else by FAIL_TOT: 0 the input's if it is finite, 1 none, 2 the last usable
 -- one, if any
 abbrev pub added_rate : History Event → Pair → Option ℕ → Option Float
-added_rate h tot none = some (float_of tot.bits)
-added_rate h tot (some bad) =
-    cond (eqb (code h 2 15) 0) (cond (finite (float_of tot.bits)) (some (float_of tot.bits)) none)
-    (cond (eqb (code h 2 15) 1) none (rate_value h))
+added_rate h tot None = Some (float_of tot.bits)
+added_rate h tot (Some bad) =
+    cond (eqb (code h 2 15) 0) (cond (finite (float_of tot.bits)) (Some (float_of tot.bits)) None)
+    (cond (eqb (code h 2 15) 1) None (rate_value h))
 
 -- T2, T7: what a rate adds, under the MODE_TOT that stands before the tick
 abbrev pub adds : History Event → Option Float → ℤ
-adds h none = pos 0
-adds h (some rate) = wanted_by (code h 2 14) (increment_of rate)
+adds h None = pos 0
+adds h (Some rate) = wanted_by (code h 2 14) (increment_of rate)
 
 -- T6, T8, R14: the total after an Auto tick: SET_TOT 1 sets 0 and 2 PRESET_TOT; else the sum with what the tick adds
 unfoldable pub total_by : History Event → Pair → ℤ → ℤ
@@ -599,14 +593,14 @@ total = carried (pos 0) total_after
 -- T5, T7, T8: the status of an Auto tick: the input's where it is usable; else the Bad status under FAIL_TOT 0 and while SET_TOT is not 0, 0x40 under 1,
 -- and under 2 0x44, or 0x4C without a remembered rate
 abbrev pub tot_status : History Event → ℕ → Option ℕ → ℕ
-tot_status h status none = status
-tot_status h status (some bad) =
+tot_status h status None = status
+tot_status h status (Some bad) =
     cond (not (eqb (code h 2 13) 0) || eqb (code h 2 15) 0) bad
     (cond (eqb (code h 2 15) 1) 0x40 (memory (rate_value h)))
   where
     memory : Option Float → ℕ
-    memory none = 0x4c
-    memory (some rate) = 0x44
+    memory None = 0x4c
+    memory (Some rate) = 0x44
 
 -- T10, T9: what TOT gives in Auto and in Man: the total's value; in Man with the operator's status
 unfoldable pub tot_gives : History Event → Bool → Pair → Pair
@@ -633,12 +627,12 @@ positioned bits status = record { out = pair bits status; move = position bits }
 
 -- O9: OUT by a working value, with the status given; old OUT with 0x04 where there is none
 abbrev pub worked_or : ℕ → ℕ → Option ℕ → Given
-worked_or old status none = positioned old 0x04
-worked_or old status (some bits) = positioned bits status
+worked_or old status None = positioned old 0x04
+worked_or old status (Some bits) = positioned bits status
 
 abbrev pub holds : (Pair → Bool) → Option Pair → Bool
-holds p none = false
-holds p (some x) = p x
+holds p None = false
+holds p (Some x) = p x
 
 -- O1: of either Good quality
 abbrev pub is_good : ℕ → Bool
@@ -666,11 +660,11 @@ pub record Drive (A : Type 0) : Type 0 where
 module _ {A : Type 0} (d : Drive A) where
   -- a telegram's pair on an input
   abbrev pub pair_on : ℕ → Event → Option Pair
-  pair_on input (ticked fault fed seen) = none
-  pair_on input (telegram input' bytes) = cond (eqb input' input) (d.received bytes) none
-  pair_on input (wrote block number a b) = none
-  pair_on input (loaded bytes) = none
-  pair_on input warmed = none
+  pair_on input (ticked fault fed seen) = None
+  pair_on input (telegram input' bytes) = cond (eqb input' input) (d.received bytes) None
+  pair_on input (wrote block number a b) = None
+  pair_on input (loaded bytes) = None
+  pair_on input warmed = None
 
   -- O1: by another sub-status than 8 it is usable if its value is finite. O2: others are nothing
   abbrev pub is_usable : Pair → Bool
@@ -689,11 +683,11 @@ module _ {A : Type 0} (d : Drive A) where
 
   -- O6: the value of the last usable telegram since start
   abbrev pub setpoint_on : ℕ → Event → Option A
-  setpoint_on input e = cond (is_usable_on input e) (value_on (pair_on input e)) none
+  setpoint_on input e = cond (is_usable_on input e) (value_on (pair_on input e)) None
     where
       value_on : Option Pair → Option A
-      value_on none = none
-      value_on (some p) = some (d.value p.bits)
+      value_on None = None
+      value_on (Some p) = Some (d.value p.bits)
 
   unfoldable pub setpoint : ℕ → History Event → A
   setpoint input h = or_else d.zero (latest (λ p. setpoint_on input) is_start h)
@@ -742,8 +736,8 @@ module _ {A : Type 0} (d : Drive A) where
 
 -- F9: five bytes are a value with a status
 abbrev pub five_as : Result Pair Refusal → Option Pair
-five_as (Ok p) = some p
-five_as (Err r) = none
+five_as (Ok p) = Some p
+five_as (Err r) = None
 
 -- O9: the working value's place in PV_SCALE, from the other end if INCREASE_CLOSE is 1, as a value in OUT_SCALE
 unfoldable pub ao_scaled : History Event → Float → Float
@@ -754,7 +748,7 @@ ao_scaled h w = at_fraction (scale h 3 38) (cond (eqb (code h 3 36) 1) (sub bina
 
 -- O9: OUT by it, if that is finite
 unfoldable pub ao_worked : History Event → Float → Option ℕ
-ao_worked h w = cond (finite (ao_scaled h w)) (some (bits_of (ao_scaled h w))) none
+ao_worked h w = cond (finite (ao_scaled h w)) (Some (bits_of (ao_scaled h w))) None
 
 -- C5, O3: SP is input 0 and RCAS_IN is 1
 abbrev pub analog_out : Drive Float
@@ -773,20 +767,20 @@ analog_out = record {
 }
 
 -- C4: AO's order as the tick answers it
-abbrev pub analog_order : Move → Order
+abbrev pub analog_order : Move → Order Float
 analog_order (position bits) = Position (float_of bits)
 analog_order safe = Safe
 analog_order rest = Rest
 
-unfoldable pub order : History Event → Bool → Order
+unfoldable pub order : History Event → Bool → Order Float
 order h fault = analog_order (driven analog_out h fault)
 
 -- ---- DO
 
 -- Q3.7: two bytes are a value with a status
 abbrev pub two_as : Result Discrete Refusal → Option Pair
-two_as (Ok d) = some (pair d.value d.status)
-two_as (Err r) = none
+two_as (Ok d) = Some (pair d.value d.status)
+two_as (Err r) = None
 
 -- Q3.2b, Q3.7: SP_D is input 2 and RCAS_IN_D is 3. Q3.4b: another setpoint than 0 and 1 counts as one that isn't finite. Q3.5: INVERT exchanges every
 -- working value, FSAFE_VAL_D too; there is always one
@@ -802,16 +796,16 @@ discrete_out = record {
   received = λ bytes. two_as (discrete_of bytes);
   fine = is_bit;
   value = λ word. word;
-  worked = λ h w. some (exchanged (code h 5 15) w);
+  worked = λ h w. Some (exchanged (code h 5 15) w);
 }
 
 -- Q3.6: DO's order as the tick answers it
-abbrev pub discrete_order : Move → OrderD
-discrete_order (position value) = OrderD.Position value
-discrete_order safe = OrderD.Safe
-discrete_order rest = OrderD.Rest
+abbrev pub discrete_order : Move → Order ℕ
+discrete_order (position value) = Position value
+discrete_order safe = Safe
+discrete_order rest = Rest
 
-unfoldable pub order_d : History Event → Bool → OrderD
+unfoldable pub order_d : History Event → Bool → Order ℕ
 order_d h fault = discrete_order (driven discrete_out h fault)
 
 -- ---- what reads give
@@ -834,7 +828,7 @@ shown h block number =
     (stored h block number))
 
 -- F2 to F4, Q3.10: a read is refused where there is no such block (1) or parameter (2)
-unfoldable pub reading : History Event → ℕ → ℕ → Reading
+unfoldable pub reading : History Event → ℕ → ℕ → Result Words Refusal
 reading h block number =
     cond (ltb 5 block) (Err (ground 1)) (cond (not (has block number)) (Err (ground 2)) (Ok (shown h block number)))
 

@@ -38,7 +38,7 @@ impl Point {
 }
 
 // A table: its pairs from the first place on, and how many they are, 0 without a table. Places after the last pair hold
-// zeros, so that one table has one form.
+// zeros, so that one table has one form. An array and a count: C holds a table, and the head has no heap.
 #[repr(C)]
 #[derive(Clone, Copy)]
 pub struct Table {
@@ -46,7 +46,7 @@ pub struct Table {
     pub points: [Point; 21],
 }
 
-// No table.
+// No table; by hand, as what it is has a definition.
 impl Default for Table {
     ghost is_default = { λ table. table ≡ no_table };
 

@@ -437,7 +437,7 @@ impl Layout for Table {
 
     fn take(from: &mut Reader) -> Table {
         let count = Layout::take(from);
-        let mut points = [Point { x: 0.0, y: 0.0 }; 21];
+        let mut points = [Point::default(); 21];
         for point in points.iter_mut() {
             *point = Layout::take(from);
         }

@@ -5,73 +5,58 @@
 
 use device::Device;
 use linearisation::Point;
-use packing::PACKED;
 use std::io;
 use wire::{Discrete, Pair, Refusal};
 
 // ---- a packed device
 
-// A byte of a buffer, and 0 after its end.
-fn byte(bytes: &[u8], at: usize) -> u8 {
-    bytes.get(at).copied().unwrap_or(0)
-}
-
-fn show_byte(rt: &impl Print, bytes: &[u8], at: usize) -> io::Result<()> {
-    print!(rt; "{:02x}", byte(bytes, at))
-}
-
-// The four bytes of a word, counted in words.
-fn show_word(rt: &impl Print, bytes: &[u8], i: u8) -> io::Result<()> {
-    let at = 4 * i as usize;
-    print!(rt; " ")?;
-    show_byte(rt, bytes, at)?;
-    show_byte(rt, bytes, at + 1)?;
-    show_byte(rt, bytes, at + 2)?;
-    show_byte(rt, bytes, at + 3)
-}
-
-// A line of words, from one on and up to another.
-fn show_words(rt: &impl Print, name: &str, bytes: &[u8], from: u8, to: u8) -> io::Result<()> {
-    print!(rt; "{name}")?;
-    for i in from..to {
-        show_word(rt, bytes, i)?;
-    }
-    println!(rt)
-}
-
 fn show_answer(rt: &impl Print, answer: Result<(), Refusal>) -> io::Result<()> {
     print!(rt; "{}", wire::answer_number(answer))
 }
 
+// Bytes, each word after a space.
+fn show_words(rt: &impl Print, bytes: &[u8]) -> io::Result<()> {
+    for word in bytes.chunks(4) {
+        print!(rt; " ")?;
+        for byte in word {
+            print!(rt; "{byte:02x}")?;
+        }
+    }
+    println!(rt)
+}
+
 // A line for each struct of the device, and the byte after them.
 fn show_structs(rt: &impl Print, bytes: &[u8]) -> io::Result<()> {
-    for (name, from, to) in [
-        ("  version, WRITE_LOCKING", 0, 2),
-        ("  AIN settings", 2, 16),
-        ("  AIN state", 16, 29),
-        ("  AIN ST_REV", 29, 30),
-        ("  AIN table, count", 30, 31),
-        ("  pairs 1 to 7", 31, 45),
-        ("  pairs 8 to 14", 45, 59),
-        ("  pairs 15 to 21", 59, 73),
-        ("  TOT settings", 73, 78),
-        ("  TOT state", 78, 86),
-        ("  TOT ST_REV", 86, 87),
-        ("  AO settings", 87, 96),
-        ("  AO state", 96, 109),
-        ("  AO ST_REV", 109, 110),
-        ("  DI settings", 110, 114),
-        ("  DI state", 114, 121),
-        ("  DI ST_REV", 121, 122),
-        ("  DO settings", 122, 127),
-        ("  DO state", 127, 140),
-        ("  DO ST_REV", 140, 141),
+    let mut left = bytes;
+    for (name, words) in [
+        ("  version, WRITE_LOCKING", 2),
+        ("  AIN settings", 14),
+        ("  AIN state", 13),
+        ("  AIN ST_REV", 1),
+        ("  AIN table, count", 1),
+        ("  pairs 1 to 7", 14),
+        ("  pairs 8 to 14", 14),
+        ("  pairs 15 to 21", 14),
+        ("  TOT settings", 5),
+        ("  TOT state", 8),
+        ("  TOT ST_REV", 1),
+        ("  AO settings", 9),
+        ("  AO state", 13),
+        ("  AO ST_REV", 1),
+        ("  DI settings", 4),
+        ("  DI state", 7),
+        ("  DI ST_REV", 1),
+        ("  DO settings", 5),
+        ("  DO state", 13),
+        ("  DO ST_REV", 1),
     ] {
-        show_words(rt, name, bytes, from, to)?;
+        let (front, behind) = left.split_at(left.len().min(4 * words));
+        print!(rt; "{name}")?;
+        show_words(rt, front)?;
+        left = behind;
     }
-    print!(rt; "  after them ")?;
-    show_byte(rt, bytes, PACKED)?;
-    println!(rt)
+    print!(rt; "  after them")?;
+    show_words(rt, left)
 }
 
 // A device's words, from a buffer that has a byte more.
@@ -139,66 +124,37 @@ fn tabled() -> Device {
 // Fields at the ends of their types, which no call leads to.
 fn ends() -> Device {
     let mut d = Device::factory();
-    let mut ain = d.ain;
-    let mut tot = d.tot;
-    let mut settings = ain.settings;
-    let mut state = ain.state;
-    let mut table = ain.table;
-    let mut points = table.points;
-    let mut total = tot.state;
-    let mut di = d.di;
-    let mut dout = d.dout;
-    let mut contact = di.state;
-    let mut sluice = dout.state;
-    let mut sluice_settings = dout.settings;
-    let kept = di::Kept {
+    d.write_locking = 0xffff_ffff;
+    d.ain.settings.lin_type = 0xffff_ffff;
+    d.ain.settings.pv_ftime = 0.0 / 0.0;
+    d.ain.settings.fsafe_value = -0.0;
+    d.ain.state.out = Pair {
+        bits: 0x7f80_0001,
+        status: 255,
+    };
+    d.ain.st_rev = 65535;
+    d.ain.table.count = 0xffff_ffff;
+    d.ain.table.points[0] = Point {
+        x: 0.0 / 0.0,
+        y: 1.0 / 0.0,
+    };
+    d.ain.table.points[20] = Point {
+        x: -1.0 / 0.0,
+        y: -0.0,
+    };
+    d.tot.state.total = i64::MIN;
+    d.di.state.last = di::Kept {
         some: true,
         value: 255,
     };
-    let heard = dout::Input {
+    d.dout.state.rcas_in = dout::Input {
         some: true,
         value: 255,
         silence: 0xffff_ffff,
         ifs: true,
     };
-    contact.last = kept;
-    sluice.rcas_in = heard;
-    sluice_settings.fsafe_time = 0xffff_ffff;
-    di.state = contact;
-    dout.state = sluice;
-    dout.settings = sluice_settings;
-    dout.st_rev = 65535;
-    settings.lin_type = 0xffff_ffff;
-    settings.pv_ftime = 0.0 / 0.0;
-    settings.fsafe_value = -0.0;
-    let out = Pair {
-        bits: 0x7f80_0001,
-        status: 255,
-    };
-    state.out = out;
-    let first = Point {
-        x: 0.0 / 0.0,
-        y: 1.0 / 0.0,
-    };
-    let last = Point {
-        x: -1.0 / 0.0,
-        y: -0.0,
-    };
-    points[0] = first;
-    points[20] = last;
-    table.count = 0xffff_ffff;
-    table.points = points;
-    total.total = i64::MIN;
-    ain.settings = settings;
-    ain.state = state;
-    ain.table = table;
-    ain.st_rev = 65535;
-    tot.state = total;
-    d.write_locking = 0xffff_ffff;
-    d.ain = ain;
-    d.tot = tot;
-    d.di = di;
-    d.dout = dout;
+    d.dout.settings.fsafe_time = 0xffff_ffff;
+    d.dout.st_rev = 65535;
     d
 }
 
@@ -224,32 +180,28 @@ fn unpacked(rt: &impl Print, name: &str, bytes: &[u8]) -> io::Result<()> {
     println!(rt)
 }
 
-fn set(mut bytes: [u8; 564], at: usize, value: u8) -> [u8; 564] {
-    if let Some(place) = bytes.get_mut(at) {
-        *place = value;
-    }
-    bytes
-}
-
 // The packed bytes of a device with one word, counted from 0, made another.
 fn changed(rt: &impl Print, name: &str, d: Device, i: u8, word: u32) -> io::Result<()> {
     let mut bytes = [0u8; 564];
     let _ = packing::pack(d, &mut bytes);
-    for (k, byte) in word.to_be_bytes().into_iter().enumerate() {
-        bytes = set(bytes, 4 * usize::from(i) + k, byte);
-    }
+    let _ = wire::put(&mut bytes, 4 * usize::from(i), word.to_be_bytes());
     unpacked(rt, name, &bytes)
 }
 
 fn lengths(rt: &impl Print) -> io::Result<()> {
     let mut bytes = [0u8; 565];
     let _ = packing::pack(used(), &mut bytes);
-    unpacked(rt, "no bytes", &bytes[0..0])?;
-    unpacked(rt, "264 bytes", &bytes[0..264])?;
-    unpacked(rt, "440 bytes", &bytes[0..440])?;
-    unpacked(rt, "563 bytes", &bytes[0..563])?;
-    unpacked(rt, "564 bytes", &bytes[0..564])?;
-    unpacked(rt, "565 bytes", &bytes)
+    for (name, length) in [
+        ("no bytes", 0),
+        ("264 bytes", 264),
+        ("440 bytes", 440),
+        ("563 bytes", 563),
+        ("564 bytes", 564),
+        ("565 bytes", 565),
+    ] {
+        unpacked(rt, name, &bytes[..length])?;
+    }
+    Ok(())
 }
 
 // A buffer that is a byte too short.
@@ -294,7 +246,9 @@ fn words(rt: &impl Print) -> io::Result<()> {
     ] {
         changed(rt, name, d, i, word)?;
     }
-    changed(rt, "a total of 2 ^ 63 - 1", with_total(d, i64::MAX), 0, 3)?;
+    let mut most = d;
+    most.tot.state.total = i64::MAX;
+    changed(rt, "a total of 2 ^ 63 - 1", most, 0, 3)?;
     for (name, i, word) in [
         ("IFS of AO's last input 0x100", 108, 0x100),
         ("DI's OUT_D 255", 114, 255),
@@ -310,25 +264,19 @@ fn words(rt: &impl Print) -> io::Result<()> {
     Ok(())
 }
 
-fn with_total(d: Device, z: i64) -> Device {
-    let mut next = d;
-    let mut tot = d.tot;
-    let mut state = tot.state;
-    state.total = z;
-    tot.state = state;
-    next.tot = tot;
-    next
-}
-
 fn main(rt: HostRuntime) -> io::Result<()> {
-    show(&rt, "factory", Device::factory())?;
-    show(&rt, "used", used())?;
-    show(&rt, "tabled", tabled())?;
-    show(&rt, "ends", ends())?;
-    changed(&rt, "factory", Device::factory(), 0, 3)?;
-    changed(&rt, "used", used(), 0, 3)?;
-    changed(&rt, "tabled", tabled(), 0, 3)?;
-    changed(&rt, "ends", ends(), 0, 3)?;
+    let devices = [
+        ("factory", Device::factory()),
+        ("used", used()),
+        ("tabled", tabled()),
+        ("ends", ends()),
+    ];
+    for (name, device) in devices {
+        show(&rt, name, device)?;
+    }
+    for (name, device) in devices {
+        changed(&rt, name, device, 0, 3)?;
+    }
     short(&rt)?;
     lengths(&rt)?;
     words(&rt)

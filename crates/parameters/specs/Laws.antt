@@ -13,17 +13,16 @@ use Rattle.numbers.specs.FloatLaws.{word_back, finite_number, finite_or-number, 
 use Rattle.scaling.specs.Scaling.{allowed_scale}
 use Rattle.wire.specs.declared.Refusal.{Refusal}
 use Rattle.wire.specs.Refusal.{granted}
+use Rattle.wire.specs.Refusal as Refusal
 use Rattle.wire.specs.declared.Refusal.TheVariants.{ReadOnly, Locked, WordsNotAllowed, NotMan}
-use Rattle.blocks.specs.Common.{out_of_service, man, auto, rcas}
+use Rattle.blocks.specs.Common.{man}
 use Rattle.parameters.specs.declared.Words.{Words}
 use Rattle.parameters.specs.declared.Allowed.{Allowed}
-use Rattle.parameters.specs.declared.Allowed.TheVariants.{Nothing, Lock, Mode, UpTo, Ends, Within, Finite, AtLeastZero, FiniteOr}
-use Rattle.parameters.specs.declared.Allowed.TheVariants.{Output, OutputD, Total}
-use Rattle.parameters.specs.declared.Entry.{Entry}
-use Rattle.parameters.specs.declared.Entry.TheVariants.{NoBlock, NoParameter, Parameter}
+use Rattle.parameters.specs.declared.Allowed.TheVariants.{Nothing, Lock, Mode, ModeOrRcas, UpTo, Ends, Within, Finite, AtLeastZero}
+use Rattle.parameters.specs.declared.Allowed.TheVariants.{FiniteOrInfinity, FiniteOrMinusInfinity, Output, OutputD, Total}
 use Rattle.parameters.specs.declared.Standing.{Standing}
-use Rattle.parameters.specs.Table.{Row, words, physical, ain, tot, ao, di, dout, entry_in, entry_of}
-use Rattle.parameters.specs.Words.{allows_of}
+use Rattle.parameters.specs.Table.{Row, Entry, judged, words, physical, ain, tot, ao, di, dout, entry_in, entry_of}
+use Rattle.parameters.specs.Words.{mode, allows_of}
 use Rattle.parameters.specs.Refused.{read_only, output, target_in, lacks_table, ground, ground_by}
 
 -- ---- blocks and rows
@@ -38,7 +37,7 @@ by-block P physical ain tot ao di dout none (suc (suc (suc (suc zero)))) = di
 by-block P physical ain tot ao di dout none (suc (suc (suc (suc (suc zero))))) = dout
 by-block P physical ain tot ao di dout none (suc (suc (suc (suc (suc (suc n)))))) = none (suc (suc (suc (suc (suc (suc n)))))) (omega arith)
 
-pub no_block : (block number : ℕ) → 5 < block → entry_of block number ≡ NoBlock
+pub no_block : (block number : ℕ) → 5 < block → entry_of block number ≡ Err (Refusal.ground 1)
 unfolding entry_of
 no_block block number h =
     rw (
@@ -69,14 +68,14 @@ others A B false all = all
 
 module _ (chosen : ℕ → Entry → Bool) (P : ℕ → ℕ → Entry → Type 0) where
   abbrev entry : Row → Entry
-  entry r = Parameter r.class r.allowed
+  entry r = Ok (judged r)
 
   -- P of each row chosen
   abbrev pub Rows : ℕ → List Row → Type 0
   Rows block [] = Unit
   Rows block (r ∷ rows) = RowBy (chosen r.number (entry r)) (P block r.number (entry r)) (Rows block rows)
 
-  module _ (lacking : (block number : ℕ) → T (chosen number NoParameter) → P block number NoParameter) where
+  module _ (lacking : (block number : ℕ) → T (chosen number (Err (Refusal.ground 2))) → P block number (Err (Refusal.ground 2))) where
     in_rows : (block : ℕ) (rows : List Row) → Rows block rows → (number : ℕ) → T (chosen number (entry_in rows number)) → P block number (entry_in rows number)
     unfolding entry_in
     in_rows block [] all number t = lacking block number t
@@ -92,7 +91,7 @@ module _ (chosen : ℕ → Entry → Bool) (P : ℕ → ℕ → Entry → Type 0
         go rest false e = rest
 
     -- P of every block and number that is chosen
-    pub by_rows : ((block number : ℕ) → T (chosen number NoBlock) → P block number NoBlock)
+    pub by_rows : ((block number : ℕ) → T (chosen number (Err (Refusal.ground 1))) → P block number (Err (Refusal.ground 1)))
         → Rows 0 physical → Rows 1 ain → Rows 2 tot → Rows 3 ao → Rows 4 di → Rows 5 dout
         → (block number : ℕ) → T (chosen number (entry_of block number)) → P block number (entry_of block number)
     unfolding entry_of
@@ -112,9 +111,8 @@ module _ (chosen : ℕ → Entry → Bool) (P : ℕ → ℕ → Entry → Type 0
 
 -- what can be written, and with which words
 abbrev pub takes : Entry → ℕ → ℕ → Bool
-takes NoBlock a b = false
-takes NoParameter a b = false
-takes (Parameter class allowed) a b = not (read_only class) && allows_of allowed a b
+takes (Ok p) a b = not (read_only p.class) && allows_of p.allowed a b
+takes (Err r) a b = false
 
 refused-other : (r : Refusal) → Err r ≡ granted → ⊥
 refused-other r e = let z : ◌≡◌ {A = ℕ} 0 1 = cc in omega arith
@@ -134,11 +132,10 @@ accepted-takes s block number a b e = by (entry_of block number) e
     go false false true false true e = absurd (refused-other _ e)
 
     by : (x : Entry) → ground_by s block number a b x ≡ granted → T (takes x a b)
-    by NoBlock e = absurd (refused-other _ e)
-    by NoParameter e = absurd (refused-other _ e)
-    by (Parameter class allowed) e =
-        go (read_only class) (eqb s.lock 0 && not (eqb block 0)) (allows_of allowed a b) (lacks_table s block number a)
-        (output allowed && not (eqb (target_in s block) man)) e
+    by (Err r) e = absurd (refused-other r e)
+    by (Ok p) e =
+        go (read_only p.class) (eqb s.lock 0 && not (eqb block 0)) (allows_of p.allowed a b) (lacks_table s block number a)
+        (output p.allowed && not (eqb (target_in s block) man)) e
 
 -- ---- allowed words read back
 
@@ -146,21 +143,22 @@ accepted-takes s block number a b e = by (entry_of block number) e
 abbrev pub shown : Allowed → Words → Words
 shown Nothing w = w
 shown Lock w = words w.first 0
-shown (Mode r) w = words w.first 0
+shown Mode w = words w.first 0
+shown ModeOrRcas w = words w.first 0
 shown (UpTo n) w = words w.first 0
 shown Ends w = words (bits_of (float_of w.first)) (bits_of (float_of w.second))
 shown (Within low high) w = words (bits_of (float_of w.first)) 0
 shown Finite w = words (bits_of (float_of w.first)) 0
 shown AtLeastZero w = words (bits_of (float_of w.first)) 0
-shown (FiniteOr negative) w = words (bits_of (float_of w.first)) 0
+shown FiniteOrInfinity w = words (bits_of (float_of w.first)) 0
+shown FiniteOrMinusInfinity w = words (bits_of (float_of w.first)) 0
 shown Output w = w
 shown OutputD w = w
 shown (Total low high) w = w
 
 abbrev pub shown_by : Entry → Words → Words
-shown_by NoBlock w = w
-shown_by NoParameter w = w
-shown_by (Parameter class allowed) w = shown allowed w
+shown_by (Ok p) w = shown p.allowed w
+shown_by (Err r) w = w
 
 module _ (w : Words) (first : w.first < 2 ^ 32) (second : w.second < 2 ^ 32) where
   coded : T (eqb w.second 0) → words w.first 0 ≡ w
@@ -181,8 +179,8 @@ module _ (w : Words) (first : w.first < 2 ^ 32) (second : w.second < 2 ^ 32) whe
   unfolding allows_of allowed_scale
   shown-back Nothing t = refl
   shown-back Lock t = coded (and_r (eqb w.first 0 || eqb w.first 2457) (eqb w.second 0) t)
-  shown-back (Mode r) t =
-      coded (and_r (eqb w.first out_of_service || eqb w.first man || eqb w.first auto || r && eqb w.first rcas) (eqb w.second 0) t)
+  shown-back Mode t = coded (and_r (mode false w.first) (eqb w.second 0) t)
+  shown-back ModeOrRcas t = coded (and_r (mode true w.first) (eqb w.second 0) t)
   shown-back (UpTo n) t = coded (and_r (leb w.first n) (eqb w.second 0) t)
   shown-back Ends t =
       ended (finite (float_of w.first)) (finite (float_of w.second)) _ (finite_number (float_of w.first)) (finite_number (float_of w.second)) t
@@ -193,7 +191,8 @@ module _ (w : Words) (first : w.first < 2 ^ 32) (second : w.second < 2 ^ 32) whe
       let b = le (of_int binary32 (pos 0)) (float_of w.first) in
       floated a (finite_number (float_of w.first))
       (and_i a (eqb w.second 0) (and_l a b (and_l (a && b) (eqb w.second 0) t)) (and_r (a && b) (eqb w.second 0) t))
-  shown-back (FiniteOr negative) t = floated (finite_or negative (float_of w.first)) (finite_or-number negative (float_of w.first)) t
+  shown-back FiniteOrInfinity t = floated (finite_or false (float_of w.first)) (finite_or-number false (float_of w.first)) t
+  shown-back FiniteOrMinusInfinity t = floated (finite_or true (float_of w.first)) (finite_or-number true (float_of w.first)) t
   shown-back Output t = refl
   shown-back OutputD t = refl
   shown-back (Total low high) t = refl

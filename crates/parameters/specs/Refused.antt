@@ -6,12 +6,10 @@ use Rattle.blocks.specs.Common.{man}
 use Rattle.parameters.specs.declared.Class.{Class}
 use Rattle.parameters.specs.declared.Class.TheVariants.{S, N, D, R}
 use Rattle.parameters.specs.declared.Allowed.{Allowed}
-use Rattle.parameters.specs.declared.Allowed.TheVariants.{Nothing, Lock, Mode, UpTo, Ends, Within, Finite, AtLeastZero, FiniteOr}
-use Rattle.parameters.specs.declared.Allowed.TheVariants.{Output, OutputD, Total}
-use Rattle.parameters.specs.declared.Entry.{Entry}
-use Rattle.parameters.specs.declared.Entry.TheVariants.{NoBlock, NoParameter, Parameter}
+use Rattle.parameters.specs.declared.Allowed.TheVariants.{Nothing, Lock, Mode, ModeOrRcas, UpTo, Ends, Within, Finite, AtLeastZero}
+use Rattle.parameters.specs.declared.Allowed.TheVariants.{FiniteOrInfinity, FiniteOrMinusInfinity, Output, OutputD, Total}
 use Rattle.parameters.specs.declared.Standing.{Standing}
-use Rattle.parameters.specs.Table.{entry_of}
+use Rattle.parameters.specs.Table.{Entry, entry_of}
 use Rattle.parameters.specs.Words.{allows_of}
 
 -- F5: no write changes a read-only parameter
@@ -25,25 +23,29 @@ read_only R = true
 abbrev pub output : Allowed → Bool
 output Nothing = false
 output Lock = false
-output (Mode with_rcas) = false
+output Mode = false
+output ModeOrRcas = false
 output (UpTo n) = false
 output Ends = false
 output (Within low high) = false
 output Finite = false
 output AtLeastZero = false
-output (FiniteOr negative) = false
+output FiniteOrInfinity = false
+output FiniteOrMinusInfinity = false
 output Output = true
 output OutputD = true
 output (Total low high) = true
 
 -- R10: stored are static and kept parameters, TOTAL left out
+abbrev pub stored_class : Class → Allowed → Bool
+stored_class S allowed = true
+stored_class N allowed = not (output allowed)
+stored_class D allowed = false
+stored_class R allowed = false
+
 abbrev pub stored_entry : Entry → Bool
-stored_entry NoBlock = false
-stored_entry NoParameter = false
-stored_entry (Parameter S allowed) = true
-stored_entry (Parameter N allowed) = not (output allowed)
-stored_entry (Parameter D allowed) = false
-stored_entry (Parameter R allowed) = false
+stored_entry (Ok p) = stored_class p.class p.allowed
+stored_entry (Err r) = false
 
 -- the target of a block; asked of blocks 1 to 5 alone
 unfoldable pub target_in : Standing → ℕ → ℕ
@@ -61,13 +63,12 @@ lacks_table s block number a = eqb block 1 && eqb number 13 && eqb a 1 && not s.
 -- written (4; block 0 has WRITE_LOCKING alone, and its only other value is 2457), words not allowed, or a table lacking (5), an output, its target being
 -- other than Man (6)
 abbrev pub ground_by : Standing → ℕ → ℕ → ℕ → ℕ → Entry → Answer
-ground_by s block number a b NoBlock = Err (Refusal.ground 1)
-ground_by s block number a b NoParameter = Err (Refusal.ground 2)
-ground_by s block number a b (Parameter class allowed) =
-    cond (read_only class) (Err (Refusal.ground 3))
+ground_by s block number a b (Err r) = Err r
+ground_by s block number a b (Ok p) =
+    cond (read_only p.class) (Err (Refusal.ground 3))
     (cond (eqb s.lock 0 && not (eqb block 0)) (Err (Refusal.ground 4))
-    (cond (not (allows_of allowed a b && not (lacks_table s block number a))) (Err (Refusal.ground 5))
-    (cond (output allowed && not (eqb (target_in s block) man)) (Err (Refusal.ground 6)) granted)))
+    (cond (not (allows_of p.allowed a b && not (lacks_table s block number a))) (Err (Refusal.ground 5))
+    (cond (output p.allowed && not (eqb (target_in s block) man)) (Err (Refusal.ground 6)) granted)))
 
 unfoldable pub ground : Standing → ℕ → ℕ → ℕ → ℕ → Answer
 ground s block number a b = ground_by s block number a b (entry_of block number)

@@ -2,17 +2,17 @@
 // stands they decide whether a write is accepted (Refused calls). DI and DO are those of document 02, request 3.
 #![tactic(auto)]
 
-ghost use Rattle.std.specs.Prelude.{◌≡◌, []};
-ghost use Rattle.parameters.specs.Table.{entry_of, entry_in, physical, ain, tot, ao, discrete, dout, is_static};
-ghost use Rattle.parameters.specs.Words.{allows_of};
-ghost use Rattle.parameters.specs.Refused.{read_only, output, target_in, lacks_table, ground};
+ghost use Rattle.std.specs.Prelude.{◌≡◌};
+ghost use Rattle.parameters.specs.Table.{entry_of, is_static};
+ghost use Rattle.parameters.specs.Words.{allows_of, code, float, ends, given, given_d, scale_of, pair_of, discrete_pair};
+ghost use Rattle.parameters.specs.Refused.{output, target_in, lacks_table, ground};
 
-use numbers::floats::{float_of, is_finite, is_finite_or, is_within};
+use numbers::floats::{bits_of, float_of, is_finite, is_finite_or, is_within};
 use scaling::Scale;
-use wire::Refusal;
+use wire::{Discrete, Pair, Refusal};
 
 // Storage class: static, kept but not in ST_REV, dynamic, read-only.
-#[derive(Clone, Copy)]
+#[derive(Clone, Copy, PartialEq, Eq)]
 pub enum Class {
     S,
     N,
@@ -27,8 +27,10 @@ pub enum Allowed {
     Nothing,
     // 0 or 2457.
     Lock,
-    // A mode's code; RCas too where the flag is set.
-    Mode(bool),
+    // The code of O/S, Man or Auto.
+    Mode,
+    // One of these, or that of RCas.
+    ModeOrRcas,
     // A whole number up to this one.
     UpTo(u32),
     // Low and high end, finite and of different numbers.
@@ -38,8 +40,10 @@ pub enum Allowed {
     Finite,
     // Finite, at least 0.
     AtLeastZero,
-    // Finite or an infinity, the negative one where the flag is set.
-    FiniteOr(bool),
+    // Finite, or the infinity above all.
+    FiniteOrInfinity,
+    // Finite, or the infinity below all.
+    FiniteOrMinusInfinity,
     // A finite value, and a status in the second word.
     Output,
     // 0 or 1, and a status in the second word.
@@ -48,20 +52,19 @@ pub enum Allowed {
     Total(f32, f32),
 }
 
+// What a block has at a number.
+#[derive(Clone, Copy)]
+pub struct Parameter {
+    pub class: Class,
+    pub allowed: Allowed,
+}
+
 // A parameter's two words.
 #[repr(C)]
 #[derive(Clone, Copy)]
 pub struct Words {
     pub first: u32,
     pub second: u32,
-}
-
-// What a block and a number lead to.
-#[derive(Clone, Copy)]
-pub enum Entry {
-    NoBlock,
-    NoParameter,
-    Parameter(Class, Allowed),
 }
 
 // What stands when a write comes: WRITE_LOCKING, the blocks' targets, and whether a linearisation table is loaded.
@@ -76,248 +79,243 @@ pub struct Standing {
     pub table: bool,
 }
 
-fn physical_entry(parameter: u8) -> Entry
-    ensures { result ≡ entry_in physical parameter }
-{
-    match parameter {
-        18 => Entry::Parameter(Class::N, Allowed::Lock),
-        _ => Entry::NoParameter,
+// ---- the table
+
+impl Parameter {
+    const fn new(class: Class, allowed: Allowed) -> Parameter
+        ensures { result ≡ record { class = class; allowed = allowed } }
+    {
+        Parameter { class, allowed }
     }
 }
 
-fn ain_entry(parameter: u8) -> Entry
-    ensures { result ≡ entry_in ain parameter }
-{
-    match parameter {
-        1 => Entry::Parameter(Class::R, Allowed::Nothing),
-        5 => Entry::Parameter(Class::S, Allowed::Mode(false)),
-        6 => Entry::Parameter(Class::R, Allowed::Nothing),
-        7 => Entry::Parameter(Class::R, Allowed::Nothing),
-        10 => Entry::Parameter(Class::D, Allowed::Output),
-        11 => Entry::Parameter(Class::S, Allowed::Ends),
-        12 => Entry::Parameter(Class::S, Allowed::Ends),
-        13 => Entry::Parameter(Class::S, Allowed::UpTo(1)),
-        16 => Entry::Parameter(Class::S, Allowed::Within(0.0, 3600.0)),
-        17 => Entry::Parameter(Class::S, Allowed::UpTo(2)),
-        18 => Entry::Parameter(Class::S, Allowed::Finite),
-        19 => Entry::Parameter(Class::S, Allowed::AtLeastZero),
-        21 => Entry::Parameter(Class::S, Allowed::FiniteOr(false)),
-        23 => Entry::Parameter(Class::S, Allowed::FiniteOr(false)),
-        25 => Entry::Parameter(Class::S, Allowed::FiniteOr(true)),
-        27 => Entry::Parameter(Class::S, Allowed::FiniteOr(true)),
-        _ => Entry::NoParameter,
-    }
-}
-
-fn tot_entry(parameter: u8) -> Entry
-    ensures { result ≡ entry_in tot parameter }
-{
-    match parameter {
-        1 => Entry::Parameter(Class::R, Allowed::Nothing),
-        5 => Entry::Parameter(Class::S, Allowed::Mode(false)),
-        6 => Entry::Parameter(Class::R, Allowed::Nothing),
-        10 => Entry::Parameter(Class::N, Allowed::Total(-1_000_000_000.0, 1_000_000_000.0)),
-        13 => Entry::Parameter(Class::N, Allowed::UpTo(2)),
-        14 => Entry::Parameter(Class::N, Allowed::UpTo(3)),
-        15 => Entry::Parameter(Class::S, Allowed::UpTo(2)),
-        16 => Entry::Parameter(Class::S, Allowed::Within(-1_000_000_000.0, 1_000_000_000.0)),
-        _ => Entry::NoParameter,
-    }
-}
-
-fn ao_entry(parameter: u8) -> Entry
-    ensures { result ≡ entry_in ao parameter }
-{
-    match parameter {
-        1 => Entry::Parameter(Class::R, Allowed::Nothing),
-        5 => Entry::Parameter(Class::S, Allowed::Mode(true)),
-        6 => Entry::Parameter(Class::R, Allowed::Nothing),
-        11 => Entry::Parameter(Class::S, Allowed::Ends),
-        23 => Entry::Parameter(Class::S, Allowed::UpTo(65535)),
-        24 => Entry::Parameter(Class::S, Allowed::UpTo(2)),
-        25 => Entry::Parameter(Class::S, Allowed::Finite),
-        36 => Entry::Parameter(Class::S, Allowed::UpTo(1)),
-        37 => Entry::Parameter(Class::D, Allowed::Output),
-        38 => Entry::Parameter(Class::S, Allowed::Ends),
-        _ => Entry::NoParameter,
-    }
-}
-
-// What DI and DO have alike; RCas too where the flag is set.
-fn discrete_entry(parameter: u8, rcas: bool) -> Entry
-    ensures { result ≡ entry_in (discrete rcas []) parameter }
-{
-    match parameter {
-        1 => Entry::Parameter(Class::R, Allowed::Nothing),
-        5 => Entry::Parameter(Class::S, Allowed::Mode(rcas)),
-        6 => Entry::Parameter(Class::R, Allowed::Nothing),
-        10 => Entry::Parameter(Class::D, Allowed::OutputD),
-        15 => Entry::Parameter(Class::S, Allowed::UpTo(1)),
-        20 => Entry::Parameter(Class::S, Allowed::UpTo(2)),
-        21 => Entry::Parameter(Class::S, Allowed::UpTo(1)),
-        _ => Entry::NoParameter,
-    }
-}
-
-fn dout_entry(parameter: u8) -> Entry
-    ensures { result ≡ entry_in dout parameter }
-{
-    match parameter {
-        22 => Entry::Parameter(Class::S, Allowed::UpTo(65535)),
-        _ => discrete_entry(parameter, true),
-    }
-}
-
-pub fn entry_of(block: u8, parameter: u8) -> Entry
+#[tactic(auto, unfolding(crate::specs::Table::entry_of, crate::specs::Table::entry_in, crate::specs::Table::physical, crate::specs::Table::ain, crate::specs::Table::tot, crate::specs::Table::ao, crate::specs::Table::discrete, crate::specs::Table::di, crate::specs::Table::dout))]
+pub fn entry_of(block: u8, parameter: u8) -> Result<Parameter, Refusal>
     ensures { result ≡ entry_of block parameter }
 {
-    match block {
-        0 => physical_entry(parameter),
-        1 => ain_entry(parameter),
-        2 => tot_entry(parameter),
-        3 => ao_entry(parameter),
-        4 => discrete_entry(parameter, false),
-        5 => dout_entry(parameter),
-        _ => Entry::NoBlock,
-    }
+    Ok(match (block, parameter) {
+        (0, 18) => Parameter::new(Class::N, Allowed::Lock),
+        // every block of these: ST_REV, the target and the actual mode
+        (1..=5, 1 | 6) => Parameter::new(Class::R, Allowed::Nothing),
+        (3 | 5, 5) => Parameter::new(Class::S, Allowed::ModeOrRcas),
+        (1..=5, 5) => Parameter::new(Class::S, Allowed::Mode),
+        (1, 7) => Parameter::new(Class::R, Allowed::Nothing),
+        (1, 10) => Parameter::new(Class::D, Allowed::Output),
+        (1, 11 | 12) => Parameter::new(Class::S, Allowed::Ends),
+        (1, 13) => Parameter::new(Class::S, Allowed::UpTo(1)),
+        (1, 16) => Parameter::new(Class::S, Allowed::Within(0.0, 3600.0)),
+        (1, 17) => Parameter::new(Class::S, Allowed::UpTo(2)),
+        (1, 18) => Parameter::new(Class::S, Allowed::Finite),
+        (1, 19) => Parameter::new(Class::S, Allowed::AtLeastZero),
+        (1, 21 | 23) => Parameter::new(Class::S, Allowed::FiniteOrInfinity),
+        (1, 25 | 27) => Parameter::new(Class::S, Allowed::FiniteOrMinusInfinity),
+        (2, 10) => Parameter::new(Class::N, Allowed::Total(-1_000_000_000.0, 1_000_000_000.0)),
+        (2, 13) => Parameter::new(Class::N, Allowed::UpTo(2)),
+        (2, 14) => Parameter::new(Class::N, Allowed::UpTo(3)),
+        (2, 15) => Parameter::new(Class::S, Allowed::UpTo(2)),
+        (2, 16) => Parameter::new(Class::S, Allowed::Within(-1_000_000_000.0, 1_000_000_000.0)),
+        (3, 11 | 38) => Parameter::new(Class::S, Allowed::Ends),
+        (3, 23) => Parameter::new(Class::S, Allowed::UpTo(65535)),
+        (3, 24) => Parameter::new(Class::S, Allowed::UpTo(2)),
+        (3, 25) => Parameter::new(Class::S, Allowed::Finite),
+        (3, 36) => Parameter::new(Class::S, Allowed::UpTo(1)),
+        (3, 37) => Parameter::new(Class::D, Allowed::Output),
+        (4 | 5, 10) => Parameter::new(Class::D, Allowed::OutputD),
+        (4 | 5, 15 | 21) => Parameter::new(Class::S, Allowed::UpTo(1)),
+        (4 | 5, 20) => Parameter::new(Class::S, Allowed::UpTo(2)),
+        (5, 22) => Parameter::new(Class::S, Allowed::UpTo(65535)),
+        (0..=5, _) => return Err(Refusal::NoSuchParameter),
+        _ => return Err(Refusal::NoSuchBlock),
+    })
 }
 
 // Whether a write of the parameter counts in ST_REV.
+#[tactic(auto, unfolding(crate::specs::Table::is_static))]
 pub fn counts(block: u8, parameter: u8) -> bool
     ensures { result ≡ is_static block parameter }
 {
-    let entry = entry_of(block, parameter);
-    match entry {
-        Entry::NoBlock => false,
-        Entry::NoParameter => false,
-        Entry::Parameter(class, _) => match class {
-            Class::S => true,
-            Class::N => false,
-            Class::D => false,
-            Class::R => false,
-        },
-    }
+    matches!(
+        entry_of(block, parameter),
+        Ok(Parameter {
+            class: Class::S,
+            ..
+        })
+    )
 }
 
-// Whether the words may be written.
-pub fn allows(allowed: Allowed, a: u32, b: u32) -> bool
-    ensures { result ≡ allows_of allowed a b }
-{
-    let one = b == 0;
-    let status = b <= 255;
-    let x = float_of(a);
-    match allowed {
-        Allowed::Nothing => false,
-        Allowed::Lock => ((a == 0) | (a == 2457)) & one,
-        Allowed::Mode(rcas) => {
-            ((a == blocks::OUT_OF_SERVICE)
-                | (a == blocks::MAN)
-                | (a == blocks::AUTO)
-                | rcas & (a == blocks::RCAS))
-                & one
+// ---- words
+
+// A parameter of one word reads with 0 as the other: a code, a time in ticks or a float.
+impl From<u32> for Words {
+    fn from(n: u32) -> Words
+        ensures { result ≡ code n }
+    {
+        Words {
+            first: n,
+            second: 0,
         }
-        Allowed::UpTo(n) => (a <= n) & one,
-        Allowed::Ends => {
-            let high = float_of(b);
-            Scale { low: x, high }.is_allowed()
+    }
+}
+
+impl From<f32> for Words {
+    fn from(x: f32) -> Words
+        ensures { result ≡ float x }
+    {
+        Words::from(bits_of(x))
+    }
+}
+
+impl From<Scale> for Words {
+    fn from(scale: Scale) -> Words
+        ensures { result ≡ ends scale }
+    {
+        Words {
+            first: bits_of(scale.low),
+            second: bits_of(scale.high),
         }
-        Allowed::Within(low, high) => is_within(x, low, high) & one,
-        Allowed::Finite => is_finite(x) & one,
-        Allowed::AtLeastZero => is_finite(x) & (x >= 0.0) & one,
-        Allowed::FiniteOr(negative) => is_finite_or(x, negative) & one,
-        Allowed::Output => is_finite(x) & status,
-        Allowed::OutputD => (a <= 1) & status,
-        Allowed::Total(low, high) => is_within(x, low, high) & status,
     }
 }
 
-fn is_read_only(class: Class) -> bool
-    ensures { result ≡ read_only class }
-{
-    match class {
-        Class::S => false,
-        Class::N => false,
-        Class::D => false,
-        Class::R => true,
-    }
-}
-
-fn is_output(allowed: Allowed) -> bool
-    ensures { result ≡ output allowed }
-{
-    match allowed {
-        Allowed::Output => true,
-        Allowed::OutputD => true,
-        Allowed::Total(_, _) => true,
-        Allowed::Nothing => false,
-        Allowed::Lock => false,
-        Allowed::Mode(_) => false,
-        Allowed::UpTo(_) => false,
-        Allowed::Ends => false,
-        Allowed::Within(_, _) => false,
-        Allowed::Finite => false,
-        Allowed::AtLeastZero => false,
-        Allowed::FiniteOr(_) => false,
-    }
-}
-
-fn target_in(s: Standing, block: u8) -> u32
-    ensures { result ≡ target_in s block }
-{
-    let ain = block == 1;
-    let tot = block == 2;
-    let ao = block == 3;
-    let di = block == 4;
-    if ain {
-        return s.ain;
-    }
-    if tot {
-        return s.tot;
-    }
-    if ao {
-        return s.ao;
-    }
-    if di {
-        return s.di;
-    }
-    s.dout
-}
-
-// Whether the write asks for a table, and none is there.
-fn lacks_table(s: Standing, block: u8, parameter: u8, a: u32) -> bool
-    ensures { result ≡ lacks_table s block parameter a }
-{
-    (block == 1) & (parameter == 13) & (a == 1) & !s.table
-}
-
-// What a write is answered.
-#[tactic(auto, unfolding(crate::specs::Refused::ground))]
-pub fn answer_to(s: Standing, block: u8, parameter: u8, a: u32, b: u32) -> Result<(), Refusal>
-    ensures { result ≡ ground s block parameter a b }
-{
-    let entry = entry_of(block, parameter);
-    match entry {
-        Entry::NoBlock => Err(Refusal::NoSuchBlock),
-        Entry::NoParameter => Err(Refusal::NoSuchParameter),
-        Entry::Parameter(class, allowed) => {
-            let fixed = is_read_only(class);
-            let locked = (s.lock == 0) & !(block == 0);
-            let lacking = lacks_table(s, block, parameter, a);
-            let allowed_words = allows(allowed, a, b) & !lacking;
-            let away = is_output(allowed) & !(target_in(s, block) == blocks::MAN);
-            if fixed {
-                return Err(Refusal::ReadOnly);
-            }
-            if locked {
-                return Err(Refusal::Locked);
-            }
-            if !allowed_words {
-                return Err(Refusal::WordsNotAllowed);
-            }
-            if away {
-                return Err(Refusal::NotMan);
-            }
-            Ok(())
+impl From<Words> for Scale {
+    fn from(words: Words) -> Scale
+        ensures { result ≡ scale_of words.first words.second }
+    {
+        Scale {
+            low: float_of(words.first),
+            high: float_of(words.second),
         }
+    }
+}
+
+// An output's words are its value and its status.
+impl From<Pair> for Words {
+    fn from(pair: Pair) -> Words
+        ensures { result ≡ given pair }
+    {
+        Words {
+            first: pair.bits,
+            second: u32::from(pair.status),
+        }
+    }
+}
+
+impl From<Words> for Pair {
+    fn from(words: Words) -> Pair
+        ensures { result ≡ pair_of words.first words.second }
+    {
+        Pair {
+            bits: words.first,
+            status: (words.second & 0xff) as u8,
+        }
+    }
+}
+
+impl From<Discrete> for Words {
+    fn from(pair: Discrete) -> Words
+        ensures { result ≡ given_d pair }
+    {
+        Words {
+            first: u32::from(pair.value),
+            second: u32::from(pair.status),
+        }
+    }
+}
+
+impl From<Words> for Discrete {
+    fn from(words: Words) -> Discrete
+        ensures { result ≡ discrete_pair words.first words.second }
+    {
+        Discrete {
+            value: (words.first & 0xff) as u8,
+            status: (words.second & 0xff) as u8,
+        }
+    }
+}
+
+impl Allowed {
+    // Whether the words may be written.
+    #[tactic(auto, unfolding(crate::specs::Words::allows_of))]
+    pub fn takes(self, words: Words) -> bool
+        ensures { result ≡ allows_of self words.first words.second }
+    {
+        let code = words.first;
+        let x = float_of(code);
+        let one = words.second == 0;
+        let status = words.second <= 255;
+        let mode = (code == blocks::OUT_OF_SERVICE)
+            | (code == blocks::MAN)
+            | (code == blocks::AUTO);
+        match self {
+            Allowed::Nothing => false,
+            Allowed::Lock => ((code == 0) | (code == 2457)) & one,
+            Allowed::Mode => mode & one,
+            Allowed::ModeOrRcas => (mode | (code == blocks::RCAS)) & one,
+            Allowed::UpTo(n) => (code <= n) & one,
+            Allowed::Ends => Scale::from(words).is_allowed(),
+            Allowed::Within(low, high) => is_within(x, low, high) & one,
+            Allowed::Finite => is_finite(x) & one,
+            Allowed::AtLeastZero => is_finite(x) & (x >= 0.0) & one,
+            Allowed::FiniteOrInfinity => is_finite_or(x, false) & one,
+            Allowed::FiniteOrMinusInfinity => is_finite_or(x, true) & one,
+            Allowed::Output => is_finite(x) & status,
+            Allowed::OutputD => (code <= 1) & status,
+            Allowed::Total(low, high) => is_within(x, low, high) & status,
+        }
+    }
+
+    // OUT, TOTAL or OUT_D.
+    fn is_output(self) -> bool
+        ensures { result ≡ output self }
+    {
+        matches!(
+            self,
+            Allowed::Output | Allowed::OutputD | Allowed::Total(_, _)
+        )
+    }
+}
+
+// ---- writes
+
+impl Standing {
+    // The target of a block; asked of blocks 1 to 5 alone.
+    #[tactic(auto, unfolding(crate::specs::Refused::target_in))]
+    fn target(&self, block: u8) -> u32
+        ensures { result ≡ target_in self.now block }
+    {
+        match block {
+            1 => self.ain,
+            2 => self.tot,
+            3 => self.ao,
+            4 => self.di,
+            _ => self.dout,
+        }
+    }
+
+    // Whether the write asks for a table, and none is there.
+    fn lacks_table(&self, block: u8, parameter: u8, words: Words) -> bool
+        ensures { result ≡ lacks_table self.now block parameter words.first }
+    {
+        (block == 1) & (parameter == 13) & (words.first == 1) & !self.table
+    }
+
+    // What a write is answered.
+    #[tactic(auto, unfolding(crate::specs::Refused::ground))]
+    pub fn answer_to(&self, block: u8, parameter: u8, words: Words) -> Result<(), Refusal>
+        ensures { result ≡ ground self.now block parameter words.first words.second }
+    {
+        let Parameter { class, allowed } = entry_of(block, parameter)?;
+        if class == Class::R {
+            return Err(Refusal::ReadOnly);
+        }
+        if self.lock == 0 && block != 0 {
+            return Err(Refusal::Locked);
+        }
+        if !allowed.takes(words) || self.lacks_table(block, parameter, words) {
+            return Err(Refusal::WordsNotAllowed);
+        }
+        if allowed.is_output() && self.target(block) != blocks::MAN {
+            return Err(Refusal::NotMan);
+        }
+        Ok(())
     }
 }

@@ -7,7 +7,7 @@ mod summary;
 
 ghost use Rattle.script.specs.Command.{Within};
 
-use ao::Order;
+use blocks::setpoint::Order;
 use device::Device;
 use parameters::Words;
 use script::{Answer, BadLine, Command};
@@ -52,19 +52,13 @@ fn words(reading: Result<Words, Refusal>) -> Answer<'static> {
     }
 }
 
-fn order(order: Order) -> script::Order {
+fn order<V, F: FnOnce(V) -> script::Order>(order: Order<V>, position: F) -> script::Order
+    requires { (value : V) → F.pre position value }
+{
     match order {
-        Order::Position(x) => script::Order::Position(numbers::floats::bits_of(x)),
+        Order::Position(value) => position(value),
         Order::Safe => script::Order::Safe,
         Order::Rest => script::Order::Rest,
-    }
-}
-
-fn order_d(order: dout::Order) -> script::Order {
-    match order {
-        dout::Order::Position(value) => script::Order::PositionD(value),
-        dout::Order::Safe => script::Order::Safe,
-        dout::Order::Rest => script::Order::Rest,
     }
 }
 
@@ -122,7 +116,14 @@ fn made<'a>(
             let before = *device;
             let orders = device.tick(fault, ain, tot, di);
             counts.tick(before, *device, summary::failing(before, fault, ain, di));
-            Answer::Orders(order(orders.ao), order_d(orders.dout))
+            Answer::Orders(
+                order(orders.ao, |x| -> script::Order {
+                    script::Order::Position(numbers::floats::bits_of(x))
+                }),
+                order(orders.dout, |value| -> script::Order {
+                    script::Order::PositionD(value)
+                }),
+            )
         }
         Command::Telegram { input, length } => {
             let bytes = &mut room[..length];

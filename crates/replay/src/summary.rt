@@ -1,5 +1,5 @@
 // What a run was answered, counted, and told on standard error at its end.
-use ao::Order;
+use blocks::setpoint::Order;
 use device::Device;
 use script::Answer;
 use std::io;
@@ -44,48 +44,41 @@ pub struct Counts {
 
 // ---- ticks
 
-// Whether AIN goes by its fail-safe in a tick: then, and only then, FSAFE_TYPE 2 would give a Bad status in Auto.
+// Whether an input block goes by its fail-safe: then, and only then, FSAFE_TYPE 2 gives a Bad status in Auto.
+fn is_bad(mode: u32, status: u8) -> bool {
+    mode == blocks::AUTO && wire::quality(status) == 0
+}
+
 fn ain_fails(d: Device, fault: bool, input: Pair) -> bool {
-    let block = d.ain;
-    let mut settings = block.settings;
-    settings.fsafe_type = 2;
-    let state = block.state;
-    let table = block.table;
-    let next = ain::tick(settings, table, state, fault, input.bits, input.status);
-    let auto = next.mode == blocks::AUTO;
-    let bad = wire::quality(next.out.status) == 0;
-    auto & bad
+    let mut block = d.ain;
+    block.settings.fsafe_type = 2;
+    block
+        .state
+        .tick(&block.settings, &block.table, fault, input);
+    is_bad(block.state.mode, block.state.out.status)
+}
+
+fn di_fails(d: Device, fault: bool, input: Discrete) -> bool {
+    let mut block = d.di;
+    block.settings.fsafe_type = 2;
+    block.state.tick(&block.settings, fault, input);
+    is_bad(block.state.mode, block.state.out.status)
 }
 
 // Whether AO does: then, and only then, FSAFE_TYPE 2 would give the order Safe.
 fn ao_fails(d: Device, fault: bool) -> bool {
-    let block = d.ao;
-    let mut settings = block.settings;
+    let mut settings = d.ao.settings;
     settings.fsafe_type = 2;
-    let state = block.state;
-    let next = ao::tick(settings, state, fault);
-    matches!(next.order, Order::Safe)
+    let mut state = d.ao.state;
+    matches!(state.tick(&settings, fault), Order::Safe)
 }
 
-// DI and DO, in the same way.
-fn di_fails(d: Device, fault: bool, input: Discrete) -> bool {
-    let block = d.di;
-    let mut settings = block.settings;
-    settings.fsafe_type = 2;
-    let state = block.state;
-    let next = di::tick(settings, state, fault, input.value, input.status);
-    let auto = next.mode == blocks::AUTO;
-    let bad = wire::quality(next.out.status) == 0;
-    auto & bad
-}
-
+// DO, in the same way; its settings and its state are of other types.
 fn dout_fails(d: Device, fault: bool) -> bool {
-    let block = d.dout;
-    let mut settings = block.settings;
+    let mut settings = d.dout.settings;
     settings.fsafe_type = 2;
-    let state = block.state;
-    let next = dout::tick(settings, state, fault);
-    matches!(next.order, dout::Order::Safe)
+    let mut state = d.dout.state;
+    matches!(state.tick(&settings, fault), Order::Safe)
 }
 
 // Which blocks go by their fail-safe in a tick.

@@ -95,6 +95,7 @@ pub enum Name {
     Load,
 }
 
+// The highest number that a word of 32 bits stands for.
 const WORD: u32 = u32::MAX;
 
 // Tried as a `match` on the byte strings: its 57 goals do not close.
@@ -260,6 +261,7 @@ pub fn parse(line: &[u8]) -> Result<Option<Command>, BadLine>
     if line[0] == b'#' {
         return Ok(None);
     }
+    // (By `ok_or` the proof did not close.)
     match named(word, words) {
         Some(command) => Ok(Some(command)),
         None => Err(BadLine),

@@ -44,9 +44,6 @@ pub fn same(a: &[u8], b: &[u8]) -> bool
     a == b
 }
 
-// The highest number that any word stands for.
-const WORD: u64 = 0xffff_ffff;
-
 fn is_byte(word: &[u8]) -> bool
     ensures { result ≡ up_to 255 (number_of word.now) }
 {
@@ -70,7 +67,7 @@ impl Words<'_> {
         ensures rest { words_of self.new.rest.now ≡ rest_of (words_of self.old.rest.now) }
     {
         match self.next() {
-            Some(word) => (text::number(word, WORD).unwrap_or(0) % 256) as u8,
+            Some(word) => (text::number(word, crate::WORD as u64).unwrap_or(0) % 256) as u8,
             None => 0,
         }
     }

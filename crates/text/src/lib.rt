@@ -9,7 +9,7 @@ ghost use Rattle.text.specs.Digits.{digit as digit_byte, hex_byte, hex_word, dec
 use itoa::Buffer;
 use std::alloc::AllocError;
 
-// The byte of a digit: capital letters from ten on.
+// The byte of a digit: capital letters from ten on, where `char::from_digit` of std has small ones.
 fn digit(d: u8) -> u8
     requires { d < 16 }
     ensures { result ≡ digit_byte d }

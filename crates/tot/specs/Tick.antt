@@ -1,17 +1,15 @@
 -- TOT's tick, document 01, TOT tick and Mode. What a tick adds, the last usable Auto rate and the status are given over plain arguments. Assumes nothing.
-use Rattle.std.specs.Prelude.{ℕ, Bool, true, not, ◌||◌, cond, eqb, ℤ, pos, Float}
+use Rattle.std.specs.Prelude.{ℕ, Bool, true, not, ◌||◌, cond, eqb, ℤ, pos, Float, Ok, Err}
 use Rattle.std.specs.Float.Ieee.Scale.{finite}
 use Rattle.numbers.specs.Floats.{float_of}
 use Rattle.blocks.specs.declared.Kept.{Kept}
-use Rattle.blocks.specs.declared.Input.{Input}
-use Rattle.blocks.specs.declared.Input.TheVariants.{Usable, Bad}
-use Rattle.blocks.specs.Common.{out_of_service, man, actual_mode, in_mode, held_out, none, kept, input_status}
+use Rattle.blocks.specs.Common.{out_of_service, man, actual_mode, in_mode, held_out, none, kept, InputStatus, input_status}
 use Rattle.tot.specs.declared.Settings.{Settings}
 use Rattle.tot.specs.declared.State.{State}
 use Rattle.tot.specs.Total.{increment_of, wanted, next_total, given_bits}
 
 -- T5: the input status, with nothing calculated of the value
-unfoldable pub input_of : ℕ → ℕ → Input
+unfoldable pub input_of : ℕ → ℕ → InputStatus
 input_of bits status = input_status status (finite (float_of bits)) true
 
 -- T7, P12d: the rate whose increment an Auto tick that isn't usable adds, if any, by FAIL_TOT: run (0) takes the tick's own if it is finite, hold (1) none,
@@ -20,9 +18,9 @@ unfoldable pub fail_rate : ℕ → Kept → Float → Kept
 fail_rate fail_tot last rate = cond (eqb fail_tot 0) (cond (finite rate) (kept rate) none) (cond (eqb fail_tot 1) none last)
 
 -- T6, T7: the same of any Auto tick; a usable one takes its own rate
-abbrev pub added_rate : ℕ → Kept → Float → Input → Kept
-added_rate fail_tot last rate Usable = kept rate
-added_rate fail_tot last rate (Bad bad) = fail_rate fail_tot last rate
+abbrev pub added_rate : ℕ → Kept → Float → InputStatus → Kept
+added_rate fail_tot last rate (Ok u) = kept rate
+added_rate fail_tot last rate (Err bad) = fail_rate fail_tot last rate
 
 -- T2, T7: that rate's increment, under the MODE_TOT of this tick, or nothing
 unfoldable pub adds : ℕ → Kept → ℤ
@@ -33,9 +31,9 @@ unfoldable pub tick_adds : ℕ → ℕ → Kept → ℕ → ℕ → ℤ
 tick_adds mode_tot fail_tot last bits status = adds mode_tot (added_rate fail_tot last (float_of bits) (input_of bits status))
 
 -- T7: the rate for memory after an Auto tick: a usable tick's own; other ticks leave it
-abbrev pub last_rate : Kept → Float → Input → Kept
-last_rate last rate Usable = kept rate
-last_rate last rate (Bad bad) = last
+abbrev pub last_rate : Kept → Float → InputStatus → Kept
+last_rate last rate (Ok u) = kept rate
+last_rate last rate (Err bad) = last
 
 unfoldable pub tick_rate : Kept → ℕ → ℕ → Kept
 tick_rate last bits status = last_rate last (float_of bits) (input_of bits status)
@@ -45,9 +43,9 @@ unfoldable pub fail_status : ℕ → ℕ → Kept → ℕ → ℕ
 fail_status set_tot fail_tot last bad = cond (not (eqb set_tot 0) || eqb fail_tot 0) bad (cond (eqb fail_tot 1) 0x40 (cond last.some 0x44 0x4c))
 
 -- T5: a usable one shows its input's status
-abbrev pub auto_status : ℕ → ℕ → Kept → ℕ → Input → ℕ
-auto_status set_tot fail_tot last status Usable = status
-auto_status set_tot fail_tot last status (Bad bad) = fail_status set_tot fail_tot last bad
+abbrev pub auto_status : ℕ → ℕ → Kept → ℕ → InputStatus → ℕ
+auto_status set_tot fail_tot last status (Ok u) = status
+auto_status set_tot fail_tot last status (Err bad) = fail_status set_tot fail_tot last bad
 
 unfoldable pub tick_status : ℕ → ℕ → Kept → ℕ → ℕ → ℕ
 tick_status set_tot fail_tot last bits status = auto_status set_tot fail_tot last status (input_of bits status)

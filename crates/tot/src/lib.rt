@@ -6,7 +6,9 @@ ghost use Rattle.tot.specs.Total.{increment_of, wanted, thousandths_of, given_bi
 ghost use Rattle.tot.specs.Tick.{fail_rate, added_rate, adds, last_rate, fail_status, auto_status, auto_tick, man_tick, out_of_service_tick, tick_of};
 ghost use Rattle.tot.specs.State.{fresh_state, written_state, warm_started};
 
-use blocks::{Input, Kept};
+use blocks::{Kept, PairOf};
+use numbers::floats::{bits_of, float_of, is_finite};
+use numbers::whole::{cut, limited, limited_sum, value_of};
 use wire::Pair;
 
 // The total counts thousandths: of a rate of 1 a tick of 0.1 s adds 100, and a value of 1 is 1000.
@@ -48,237 +50,194 @@ pub struct State {
 pub fn thousandths(value: f32) -> i64
     ensures { result ≡ thousandths_of value }
 {
-    numbers::whole::cut(value * TOTAL_FACTOR)
+    cut(value * TOTAL_FACTOR)
 }
 
 // What a rate adds in a tick, before MODE_TOT.
 pub fn increment(rate: f32) -> i64
     ensures { result ≡ increment_of rate }
 {
-    numbers::whole::limited(numbers::whole::cut(rate * RATE_FACTOR), INCREMENT_LIMIT)
-}
-
-// An increment, or 0 where MODE_TOT drops it.
-fn by_mode(mode_tot: u32, z: i64) -> i64
-    ensures { result ≡ wanted mode_tot z }
-{
-    let below = z < 0;
-    let kept = (mode_tot == 0) | (mode_tot == 1) & !below | (mode_tot == 2) & below;
-    if kept {
-        return z;
-    }
-    0
-}
-
-// What is added for a rate, if there is one.
-fn added(mode_tot: u32, rate: Kept) -> i64
-    ensures { result ≡ adds mode_tot rate }
-{
-    if rate.some {
-        return by_mode(mode_tot, increment(rate.value));
-    }
-    0
-}
-
-// The rate that is added for in an Auto tick that is not usable.
-fn fail_rate(fail_tot: u32, last: Kept, rate: f32) -> Kept
-    ensures { result ≡ fail_rate fail_tot last rate }
-{
-    let run = fail_tot == 0;
-    let hold = fail_tot == 1;
-    if run {
-        if numbers::floats::is_finite(rate) {
-            return blocks::keep(rate);
-        }
-        return blocks::nothing();
-    }
-    if hold {
-        return blocks::nothing();
-    }
-    last
-}
-
-// The rate that is added for in an Auto tick.
-fn added_rate(fail_tot: u32, last: Kept, rate: f32, input: Input) -> Kept
-    ensures { result ≡ added_rate fail_tot last rate input }
-{
-    match input {
-        Input::Usable => blocks::keep(rate),
-        Input::Bad(_) => fail_rate(fail_tot, last, rate),
-    }
-}
-
-// The last usable Auto rate after an Auto tick.
-fn last_rate(last: Kept, rate: f32, input: Input) -> Kept
-    ensures { result ≡ last_rate last rate input }
-{
-    match input {
-        Input::Usable => blocks::keep(rate),
-        Input::Bad(_) => last,
-    }
-}
-
-// The status of an Auto tick that is not usable.
-fn fail_status(set_tot: u32, fail_tot: u32, last: Kept, bad: u8) -> u8
-    ensures { result ≡ fail_status set_tot fail_tot last bad }
-{
-    let run = (set_tot != 0) | (fail_tot == 0);
-    let hold = fail_tot == 1;
-    if run {
-        return bad;
-    }
-    if hold {
-        return 0x40;
-    }
-    if last.some {
-        return 0x44;
-    }
-    0x4c
-}
-
-// The status of an Auto tick.
-fn auto_status(set_tot: u32, fail_tot: u32, last: Kept, status: u8, input: Input) -> u8
-    ensures { result ≡ auto_status set_tot fail_tot last status input }
-{
-    match input {
-        Input::Usable => status,
-        Input::Bad(bad) => fail_status(set_tot, fail_tot, last, bad),
-    }
-}
-
-// The total after an Auto tick that adds z where SET_TOT lets it.
-fn next_total(set_tot: u32, preset_tot: f32, total: i64, z: i64) -> i64
-    ensures { result ≡ next_total set_tot preset_tot total z }
-{
-    let run = set_tot == 0;
-    let reset = set_tot == 1;
-    if run {
-        return numbers::whole::limited_sum(total, z, TOTAL_LIMIT);
-    }
-    if reset {
-        return 0;
-    }
-    thousandths(preset_tot)
+    limited(cut(rate * RATE_FACTOR), INCREMENT_LIMIT)
 }
 
 // The bits of the value that a total is given as.
 pub fn given(total: i64) -> u32
     ensures { result ≡ given_bits total }
 {
-    numbers::floats::bits_of(numbers::whole::value_of(total) / TOTAL_FACTOR)
+    bits_of(value_of(total) / TOTAL_FACTOR)
 }
 
-fn auto_tick(s: Settings, st: State, mode: u32, bits: u32, status: u8) -> State
-    ensures { result ≡ auto_tick s st mode bits status }
+// The last usable Auto rate after an Auto tick.
+fn last_rate(last: Kept, rate: f32, input: Result<(), u8>) -> Kept
+    ensures { result ≡ last_rate last rate input }
 {
-    let rate = numbers::floats::float_of(bits);
-    let finite = numbers::floats::is_finite(rate);
-    let input = blocks::input_status(status, finite, true);
-    let last = st.rate;
-    let add = added_rate(s.fail_tot, last, rate, input);
-    let kept = last_rate(last, rate, input);
-    let shown = auto_status(s.set_tot, s.fail_tot, last, status, input);
-    let total = next_total(s.set_tot, s.preset_tot, st.total, added(s.mode_tot, add));
-    State {
-        total: total,
-        out: Pair {
-            bits: given(total),
-            status: shown,
-        },
-        mode: mode,
-        rate: kept,
-        operator_status: st.operator_status,
+    match input {
+        Ok(()) => Kept::from(Some(rate)),
+        Err(_) => last,
     }
 }
 
-fn man_tick(st: State) -> State
-    ensures { result ≡ man_tick st }
-{
-    let rate = st.rate;
-    State {
-        total: st.total,
-        out: Pair {
-            bits: given(st.total),
-            status: st.operator_status,
-        },
-        mode: blocks::MAN,
-        rate: rate,
-        operator_status: st.operator_status,
+impl Settings {
+    // An increment, or 0 where MODE_TOT drops it.
+    #[tactic(auto, unfolding(crate::specs::Total::wanted))]
+    fn wanted(&self, z: i64) -> i64
+        ensures { result ≡ wanted self.now.mode_tot z }
+    {
+        match self.mode_tot {
+            0 => z,
+            1 if z >= 0 => z,
+            2 if z < 0 => z,
+            _ => 0,
+        }
+    }
+
+    // What is added for a rate, if there is one.
+    #[tactic(auto, unfolding(crate::specs::Tick::adds))]
+    fn added(&self, rate: Kept) -> i64
+        ensures { result ≡ adds self.now.mode_tot rate }
+    {
+        match Option::<f32>::from(rate) {
+            Some(rate) => self.wanted(increment(rate)),
+            None => 0,
+        }
+    }
+
+    // The rate that is added for in an Auto tick that is not usable.
+    #[tactic(auto, unfolding(crate::specs::Tick::fail_rate))]
+    fn fail_rate(&self, last: Kept, rate: f32) -> Kept
+        ensures { result ≡ fail_rate self.now.fail_tot last rate }
+    {
+        match self.fail_tot {
+            0 => Kept::from(is_finite(rate).then_some(rate)),
+            1 => Kept::from(None),
+            _ => last,
+        }
+    }
+
+    // The rate that is added for in an Auto tick.
+    fn added_rate(&self, last: Kept, rate: f32, input: Result<(), u8>) -> Kept
+        ensures { result ≡ added_rate self.now.fail_tot last rate input }
+    {
+        match input {
+            Ok(()) => Kept::from(Some(rate)),
+            Err(_) => self.fail_rate(last, rate),
+        }
+    }
+
+    // The status of an Auto tick that is not usable.
+    #[tactic(auto, unfolding(crate::specs::Tick::fail_status))]
+    fn fail_status(&self, last: Kept, bad: u8) -> u8
+        ensures { result ≡ fail_status self.now.set_tot self.now.fail_tot last bad }
+    {
+        if self.set_tot != 0 {
+            return bad;
+        }
+        match self.fail_tot {
+            0 => bad,
+            1 => 0x40,
+            _ if last.some => 0x44,
+            _ => 0x4c,
+        }
+    }
+
+    // The status of an Auto tick.
+    fn status(&self, last: Kept, status: u8, input: Result<(), u8>) -> u8
+        ensures { result ≡ auto_status self.now.set_tot self.now.fail_tot last status input }
+    {
+        match input {
+            Ok(()) => status,
+            Err(bad) => self.fail_status(last, bad),
+        }
+    }
+
+    // The total after an Auto tick that adds z where SET_TOT lets it.
+    #[tactic(auto, unfolding(crate::specs::Total::next_total, crate::specs::Total::sum_of))]
+    fn next_total(&self, total: i64, z: i64) -> i64
+        ensures { result ≡ next_total self.now.set_tot self.now.preset_tot total z }
+    {
+        match self.set_tot {
+            0 => limited_sum(total, z, TOTAL_LIMIT),
+            1 => 0,
+            _ => thousandths(self.preset_tot),
+        }
     }
 }
 
-fn out_of_service_tick(st: State) -> State
-    ensures { result ≡ out_of_service_tick st }
-{
-    let out = blocks::held(st.out);
-    let rate = st.rate;
-    State {
-        total: st.total,
-        out: out,
-        mode: blocks::OUT_OF_SERVICE,
-        rate: rate,
-        operator_status: st.operator_status,
+impl State {
+    pub fn fresh() -> State
+        ensures { result ≡ fresh_state }
+    {
+        State {
+            total: 0,
+            out: Pair::from(PairOf::held(0)),
+            mode: blocks::OUT_OF_SERVICE,
+            rate: Kept::from(None),
+            operator_status: blocks::FRESH_STATUS,
+        }
     }
-}
 
-// The block's tick: the fault flag, and the transducer's value as its bits with its status.
-pub fn tick(s: Settings, st: State, fault: bool, bits: u32, status: u8) -> State
-    ensures { result ≡ tick_of s st fault bits status }
-{
-    let mode = blocks::actual_mode(fault, s.target);
-    let off = mode == blocks::OUT_OF_SERVICE;
-    let man = mode == blocks::MAN;
-    if off {
-        return out_of_service_tick(st);
+    // The block's tick: the fault flag, and the transducer's value with its status.
+    #[tactic(auto, unfolding(crate::specs::Tick::tick_of, crate::specs::Tick::tick_by))]
+    pub fn tick(&mut self, settings: &Settings, fault: bool, input: Pair)
+        ensures { self.new ≡ tick_of settings.now self.old fault input.bits input.status }
+    {
+        match blocks::actual_mode(fault, settings.target) {
+            blocks::OUT_OF_SERVICE => self.tick_out_of_service(),
+            blocks::MAN => self.tick_man(),
+            mode => self.tick_auto(settings, mode, input),
+        }
     }
-    if man {
-        return man_tick(st);
-    }
-    auto_tick(s, st, mode, bits, status)
-}
 
-pub fn fresh() -> State
-    ensures { result ≡ fresh_state }
-{
-    let none = blocks::nothing();
-    State {
-        total: 0,
-        out: Pair {
-            bits: 0,
-            status: 0x1f,
-        },
-        mode: blocks::OUT_OF_SERVICE,
-        rate: none,
-        operator_status: 0x4c,
+    #[tactic(auto, unfolding(crate::specs::Tick::out_of_service_tick))]
+    fn tick_out_of_service(&mut self)
+        ensures { self.new ≡ out_of_service_tick self.old }
+    {
+        self.out = Pair::from(PairOf::held(self.out.bits));
+        self.mode = blocks::OUT_OF_SERVICE;
     }
-}
 
-// An accepted write of TOTAL: the total is set, the status kept for Man ticks; what was given shows it only then.
-pub fn written(st: State, bits: u32, status: u8) -> State
-    ensures { result ≡ written_state st bits status }
-{
-    let out = st.out;
-    let rate = st.rate;
-    State {
-        total: thousandths(numbers::floats::float_of(bits)),
-        out: out,
-        mode: st.mode,
-        rate: rate,
-        operator_status: status,
+    #[tactic(auto, unfolding(crate::specs::Tick::man_tick))]
+    fn tick_man(&mut self)
+        ensures { self.new ≡ man_tick self.old }
+    {
+        self.out = Pair {
+            bits: given(self.total),
+            status: self.operator_status,
+        };
+        self.mode = blocks::MAN;
     }
-}
 
-pub fn warm_start(st: State) -> State
-    ensures { result ≡ warm_started st }
-{
-    let new = fresh();
-    let out = blocks::held(st.out);
-    let rate = new.rate;
-    State {
-        total: st.total,
-        out: out,
-        mode: new.mode,
-        rate: rate,
-        operator_status: new.operator_status,
+    #[tactic(auto, unfolding(crate::specs::Tick::auto_tick, crate::specs::Tick::auto_total, crate::specs::Tick::tick_adds, crate::specs::Tick::tick_rate, crate::specs::Tick::tick_status, crate::specs::Tick::input_of))]
+    fn tick_auto(&mut self, settings: &Settings, mode: u32, input: Pair)
+        ensures { self.new ≡ auto_tick settings.now self.old mode input.bits input.status }
+    {
+        let rate = float_of(input.bits);
+        let judged = blocks::input_status(input.status, is_finite(rate), true);
+        let added = settings.added(settings.added_rate(self.rate, rate, judged));
+        self.total = settings.next_total(self.total, added);
+        self.out = Pair {
+            bits: given(self.total),
+            status: settings.status(self.rate, input.status, judged),
+        };
+        self.mode = mode;
+        self.rate = last_rate(self.rate, rate, judged);
+    }
+
+    // An accepted write of TOTAL: the total is set, the status kept for Man ticks; what was given shows it only then.
+    pub fn operate(&mut self, pair: Pair)
+        ensures { self.new ≡ written_state self.old pair.bits pair.status }
+    {
+        self.total = thousandths(float_of(pair.bits));
+        self.operator_status = pair.status;
+    }
+
+    pub fn warm_start(&mut self)
+        ensures { self.new ≡ warm_started self.old }
+    {
+        *self = State {
+            total: self.total,
+            out: Pair::from(PairOf::held(self.out.bits)),
+            ..State::fresh()
+        };
     }
 }

@@ -5,33 +5,7 @@
 
 use std::io;
 use tot::{Settings, State};
-
-fn print_state(rt: &impl Print, st: State) -> io::Result<()> {
-    let out = st.out;
-    let total = st.total;
-    let bits = out.bits;
-    let status = out.status;
-    let mode = st.mode;
-    println!(rt; "{total} {bits:08x} {status:02x} {mode:02x}")
-}
-
-fn print_pair(rt: &impl Print, bits: u32, status: u8) -> io::Result<()> {
-    print!(rt; "{bits:08x} {status:02x}: ")
-}
-
-// A fresh state but for its total.
-fn at(total: i64) -> State {
-    let st = tot::fresh();
-    let out = st.out;
-    let rate = st.rate;
-    State {
-        total: total,
-        out: out,
-        mode: st.mode,
-        rate: rate,
-        operator_status: st.operator_status,
-    }
-}
+use wire::Pair;
 
 fn settings(
     rt: &impl Print,
@@ -43,60 +17,87 @@ fn settings(
 ) -> io::Result<Settings> {
     println!(rt; "settings {target:02x} {set_tot} {mode_tot} {fail_tot} {preset:08x}")?;
     Ok(Settings {
-        target: target,
-        set_tot: set_tot,
-        mode_tot: mode_tot,
-        fail_tot: fail_tot,
+        target,
+        set_tot,
+        mode_tot,
+        fail_tot,
         preset_tot: numbers::floats::float_of(preset),
     })
 }
 
-fn step(
-    rt: &impl Print,
-    s: Settings,
-    st: State,
-    fault: bool,
-    bits: u32,
-    status: u8,
-) -> io::Result<State> {
-    let next = tot::tick(s, st, fault, bits, status);
-    let flag = fault as u8;
-    print!(rt; "{flag} ")?;
-    print_pair(rt, bits, status)?;
-    print_state(rt, next)?;
-    Ok(next)
+// A fresh state but for its total.
+fn at(total: i64) -> State {
+    let mut state = State::fresh();
+    state.total = total;
+    state
 }
 
-fn write(rt: &impl Print, st: State, bits: u32, status: u8) -> io::Result<State> {
-    let next = tot::written(st, bits, status);
-    print!(rt; "written ")?;
-    print_pair(rt, bits, status)?;
-    print_state(rt, next)?;
-    Ok(next)
+// A block with its parameters. Each step of it writes a line.
+#[derive(Clone, Copy)]
+struct Block {
+    settings: Settings,
+    state: State,
 }
 
-fn warm(rt: &impl Print, st: State) -> io::Result<State> {
-    let next = tot::warm_start(st);
-    print!(rt; "warm start: ")?;
-    print_state(rt, next)?;
-    Ok(next)
+fn fresh(settings: Settings) -> Block {
+    Block {
+        settings,
+        state: State::fresh(),
+    }
+}
+
+impl Block {
+    fn show(&self, rt: &impl Print) -> io::Result<()> {
+        let state = self.state;
+        let out = state.out;
+        println!(rt;
+            ": {} {:08x} {:02x} {:02x}",
+            state.total, out.bits, out.status, state.mode
+        )
+    }
+
+    fn ticked(&mut self, rt: &impl Print, fault: bool, bits: u32, status: u8) -> io::Result<()> {
+        self.state
+            .tick(&self.settings, fault, Pair { bits, status });
+        print!(rt; "{} {bits:08x} {status:02x}", fault as u8)?;
+        self.show(rt)
+    }
+
+    fn tick(&mut self, rt: &impl Print, bits: u32, status: u8) -> io::Result<()> {
+        self.ticked(rt, false, bits, status)
+    }
+
+    fn fault_tick(&mut self, rt: &impl Print, bits: u32, status: u8) -> io::Result<()> {
+        self.ticked(rt, true, bits, status)
+    }
+
+    fn write(&mut self, rt: &impl Print, bits: u32, status: u8) -> io::Result<()> {
+        self.state.operate(Pair { bits, status });
+        print!(rt; "written {bits:08x} {status:02x}")?;
+        self.show(rt)
+    }
+
+    fn warm(&mut self, rt: &impl Print) -> io::Result<()> {
+        self.state.warm_start();
+        print!(rt; "warm start")?;
+        self.show(rt)
+    }
 }
 
 // Points E, F and G, and totals that tell clearing from rounding and from keeping 23 or 25 bits.
 fn points(rt: &impl Print) -> io::Result<()> {
     println!(rt; "points")?;
-    let mut st = tot::fresh();
-    let mut s = settings(rt, 0x08, 0, 0, 0, 0x00000000)?;
+    let mut b = fresh(settings(rt, 0x08, 0, 0, 0, 0x00000000)?);
     for (bits, status) in [
         (0x3c800000, 0x80), // 0.015625
         (0xbc800000, 0x80), // -0.015625
         (0xbc800000, 0x80), // -0.015625
     ] {
-        st = step(rt, s, st, false, bits, status)?;
+        b.tick(rt, bits, status)?;
     }
-    st = at(16777216);
-    st = step(rt, s, st, false, 0x3c800000, 0x80)?; // 0.015625
-    s = settings(rt, 0x10, 0, 0, 0, 0x00000000)?;
+    b.state = at(16777216);
+    b.tick(rt, 0x3c800000, 0x80)?; // 0.015625
+    b.settings = settings(rt, 0x10, 0, 0, 0, 0x00000000)?;
     for total in [
         16777219,
         16777251,
@@ -109,7 +110,8 @@ fn points(rt: &impl Print) -> io::Result<()> {
         1000000000000,
         -1000000000000,
     ] {
-        st = step(rt, s, at(total), false, 0x00000000, 0x00)?; // 0
+        b.state = at(total);
+        b.tick(rt, 0x00000000, 0x00)?; // 0
     }
     Ok(())
 }
@@ -117,8 +119,7 @@ fn points(rt: &impl Print) -> io::Result<()> {
 // Cutting is toward zero and not down, of the product as it is rounded.
 fn increments(rt: &impl Print) -> io::Result<()> {
     println!(rt; "increments")?;
-    let mut st = tot::fresh();
-    let mut s = settings(rt, 0x08, 0, 0, 0, 0x00000000)?;
+    let mut b = fresh(settings(rt, 0x08, 0, 0, 0, 0x00000000)?);
     for (bits, status) in [
         (0x3e947ae1, 0x80), // 0.289999992
         (0xbe947ae1, 0x80), // -0.289999992
@@ -131,7 +132,7 @@ fn increments(rt: &impl Print) -> io::Result<()> {
         (0x3fa00000, 0x80), // 1.25
         (0xbfa00000, 0x80), // -1.25
     ] {
-        st = step(rt, s, st, false, bits, status)?;
+        b.tick(rt, bits, status)?;
     }
     Ok(())
 }
@@ -139,8 +140,7 @@ fn increments(rt: &impl Print) -> io::Result<()> {
 // The ends of the increment and of the sum, and totals that no device reaches.
 fn limits(rt: &impl Print) -> io::Result<()> {
     println!(rt; "limits")?;
-    let mut st = tot::fresh();
-    let mut s = settings(rt, 0x08, 0, 0, 0, 0x00000000)?;
+    let mut b = fresh(settings(rt, 0x08, 0, 0, 0, 0x00000000)?);
     for (bits, status) in [
         (0x4b189680, 0x80), // 10000000
         (0x4b18967f, 0x80), // 9999999
@@ -150,58 +150,54 @@ fn limits(rt: &impl Print) -> io::Result<()> {
         (0xff7fffff, 0x80), // -3.40282347e+38
         (0xcb189680, 0x80), // -10000000
     ] {
-        st = step(rt, s, st, false, bits, status)?;
+        b.tick(rt, bits, status)?;
     }
-    st = at(999999999900);
+    b.state = at(999999999900);
     for (bits, status) in [
         (0x3f800000, 0x80), // 1
         (0x3c23d70a, 0x80), // 0.00999999978
         (0xbca3d70a, 0x80), // -0.0199999996
     ] {
-        st = step(rt, s, st, false, bits, status)?;
+        b.tick(rt, bits, status)?;
     }
-    st = at(-999999999900);
+    b.state = at(-999999999900);
     for (bits, status) in [
         (0xbf800000, 0x80), // -1
         (0xcb189680, 0x80), // -10000000
         (0x3f000000, 0x80), // 0.5
     ] {
-        st = step(rt, s, st, false, bits, status)?;
+        b.tick(rt, bits, status)?;
     }
-    st = at(i64::MAX);
-    st = step(rt, s, st, false, 0x3f800000, 0x80)?; // 1
-    st = at(i64::MIN);
-    st = step(rt, s, st, false, 0xbf800000, 0x80)?; // -1
-    Ok(())
+    b.state = at(i64::MAX);
+    b.tick(rt, 0x3f800000, 0x80)?; // 1
+    b.state = at(i64::MIN);
+    b.tick(rt, 0xbf800000, 0x80) // -1
 }
 
 // MODE_TOT passes both signs, one or none; the status stays the input's. A code past the list counts as hold.
 fn signs(rt: &impl Print) -> io::Result<()> {
     println!(rt; "signs")?;
-    let mut st = tot::fresh();
-    let mut s = settings(rt, 0x08, 0, 0, 0, 0x00000000)?;
-    st = step(rt, s, st, false, 0x40000000, 0x83)?; // 2
-    st = step(rt, s, st, false, 0xc0400000, 0x4e)?; // -3
-    s = settings(rt, 0x08, 0, 1, 0, 0x00000000)?;
-    st = step(rt, s, st, false, 0x40000000, 0x83)?; // 2
-    st = step(rt, s, st, false, 0xc0400000, 0x4e)?; // -3
-    s = settings(rt, 0x08, 0, 2, 0, 0x00000000)?;
-    st = step(rt, s, st, false, 0x40000000, 0x83)?; // 2
-    st = step(rt, s, st, false, 0xc0400000, 0x4e)?; // -3
-    s = settings(rt, 0x08, 0, 3, 0, 0x00000000)?;
-    st = step(rt, s, st, false, 0x40000000, 0x83)?; // 2
-    st = step(rt, s, st, false, 0xc0400000, 0x4e)?; // -3
-    s = settings(rt, 0x08, 0, 7, 0, 0x00000000)?;
-    st = step(rt, s, st, false, 0x40000000, 0x83)?; // 2
-    st = step(rt, s, st, false, 0xc0400000, 0x4e)?; // -3
-    Ok(())
+    let mut b = fresh(settings(rt, 0x08, 0, 0, 0, 0x00000000)?);
+    b.tick(rt, 0x40000000, 0x83)?; // 2
+    b.tick(rt, 0xc0400000, 0x4e)?; // -3
+    b.settings = settings(rt, 0x08, 0, 1, 0, 0x00000000)?;
+    b.tick(rt, 0x40000000, 0x83)?; // 2
+    b.tick(rt, 0xc0400000, 0x4e)?; // -3
+    b.settings = settings(rt, 0x08, 0, 2, 0, 0x00000000)?;
+    b.tick(rt, 0x40000000, 0x83)?; // 2
+    b.tick(rt, 0xc0400000, 0x4e)?; // -3
+    b.settings = settings(rt, 0x08, 0, 3, 0, 0x00000000)?;
+    b.tick(rt, 0x40000000, 0x83)?; // 2
+    b.tick(rt, 0xc0400000, 0x4e)?; // -3
+    b.settings = settings(rt, 0x08, 0, 7, 0, 0x00000000)?;
+    b.tick(rt, 0x40000000, 0x83)?; // 2
+    b.tick(rt, 0xc0400000, 0x4e) // -3
 }
 
 // FAIL_TOT run: the Bad status, and the increment of a finite rate.
 fn failures_run(rt: &impl Print) -> io::Result<()> {
     println!(rt; "failures run")?;
-    let mut st = tot::fresh();
-    let mut s = settings(rt, 0x08, 0, 0, 0, 0x00000000)?;
+    let mut b = fresh(settings(rt, 0x08, 0, 0, 0, 0x00000000)?);
     for (bits, status) in [
         (0x3f800000, 0x0d), // 1
         (0x3f800000, 0xc3), // 1
@@ -215,7 +211,7 @@ fn failures_run(rt: &impl Print) -> io::Result<()> {
         (0x7f7fffff, 0x00), // 3.40282347e+38
         (0xffffffff, 0x80), // NaN
     ] {
-        st = step(rt, s, st, false, bits, status)?;
+        b.tick(rt, bits, status)?;
     }
     Ok(())
 }
@@ -223,8 +219,8 @@ fn failures_run(rt: &impl Print) -> io::Result<()> {
 // FAIL_TOT hold: nothing added, 0x40, whatever the cause.
 fn failures_hold(rt: &impl Print) -> io::Result<()> {
     println!(rt; "failures hold")?;
-    let mut st = at(500);
-    let mut s = settings(rt, 0x08, 0, 0, 1, 0x00000000)?;
+    let mut b = fresh(settings(rt, 0x08, 0, 0, 1, 0x00000000)?);
+    b.state = at(500);
     for (bits, status) in [
         (0x3f800000, 0x0d), // 1
         (0x3f800000, 0xc3), // 1
@@ -233,7 +229,7 @@ fn failures_hold(rt: &impl Print) -> io::Result<()> {
         (0x3f800000, 0x80), // 1
         (0x3f800000, 0x00), // 1
     ] {
-        st = step(rt, s, st, false, bits, status)?;
+        b.tick(rt, bits, status)?;
     }
     Ok(())
 }
@@ -241,8 +237,7 @@ fn failures_hold(rt: &impl Print) -> io::Result<()> {
 // FAIL_TOT memory: the rate of an earlier usable tick, under the MODE_TOT of this one; a code past the list counts as memory.
 fn memory(rt: &impl Print) -> io::Result<()> {
     println!(rt; "memory")?;
-    let mut st = tot::fresh();
-    let mut s = settings(rt, 0x08, 0, 0, 2, 0x00000000)?;
+    let mut b = fresh(settings(rt, 0x08, 0, 0, 2, 0x00000000)?);
     for (bits, status) in [
         (0x40a00000, 0x00), // 5
         (0x7fc00000, 0x80), // NaN
@@ -250,113 +245,107 @@ fn memory(rt: &impl Print) -> io::Result<()> {
         (0x40e00000, 0x0c), // 7
         (0x7fc00000, 0x80), // NaN
     ] {
-        st = step(rt, s, st, false, bits, status)?;
+        b.tick(rt, bits, status)?;
     }
-    s = settings(rt, 0x08, 0, 1, 2, 0x00000000)?;
-    st = step(rt, s, st, false, 0xc0000000, 0x80)?; // -2
-    st = step(rt, s, st, false, 0x40e00000, 0xc0)?; // 7
-    s = settings(rt, 0x08, 0, 0, 2, 0x00000000)?;
-    st = step(rt, s, st, false, 0x40e00000, 0x00)?; // 7
-    s = settings(rt, 0x08, 0, 3, 2, 0x00000000)?;
-    st = step(rt, s, st, false, 0x40400000, 0x50)?; // 3
-    st = step(rt, s, st, false, 0x40e00000, 0x00)?; // 7
-    s = settings(rt, 0x08, 0, 0, 5, 0x00000000)?;
-    st = step(rt, s, st, false, 0x7f800000, 0x80)?; // inf
-    s = settings(rt, 0x08, 1, 0, 2, 0x00000000)?;
-    st = step(rt, s, st, false, 0x40800000, 0x80)?; // 4
-    s = settings(rt, 0x08, 0, 0, 2, 0x00000000)?;
-    st = step(rt, s, st, false, 0x41100000, 0x00)?; // 9
-    s = settings(rt, 0x10, 0, 0, 2, 0x00000000)?;
-    st = step(rt, s, st, false, 0x40c00000, 0x80)?; // 6
-    s = settings(rt, 0x08, 0, 0, 2, 0x00000000)?;
-    st = step(rt, s, st, false, 0x41100000, 0x00)?; // 9
-    st = step(rt, s, st, true, 0x41100000, 0x80)?; // 9
-    st = step(rt, s, st, false, 0x41100000, 0x00)?; // 9
-    st = warm(rt, st)?;
-    st = step(rt, s, st, false, 0x41100000, 0x00)?; // 9
-    Ok(())
+    b.settings = settings(rt, 0x08, 0, 1, 2, 0x00000000)?;
+    b.tick(rt, 0xc0000000, 0x80)?; // -2
+    b.tick(rt, 0x40e00000, 0xc0)?; // 7
+    b.settings = settings(rt, 0x08, 0, 0, 2, 0x00000000)?;
+    b.tick(rt, 0x40e00000, 0x00)?; // 7
+    b.settings = settings(rt, 0x08, 0, 3, 2, 0x00000000)?;
+    b.tick(rt, 0x40400000, 0x50)?; // 3
+    b.tick(rt, 0x40e00000, 0x00)?; // 7
+    b.settings = settings(rt, 0x08, 0, 0, 5, 0x00000000)?;
+    b.tick(rt, 0x7f800000, 0x80)?; // inf
+    b.settings = settings(rt, 0x08, 1, 0, 2, 0x00000000)?;
+    b.tick(rt, 0x40800000, 0x80)?; // 4
+    b.settings = settings(rt, 0x08, 0, 0, 2, 0x00000000)?;
+    b.tick(rt, 0x41100000, 0x00)?; // 9
+    b.settings = settings(rt, 0x10, 0, 0, 2, 0x00000000)?;
+    b.tick(rt, 0x40c00000, 0x80)?; // 6
+    b.settings = settings(rt, 0x08, 0, 0, 2, 0x00000000)?;
+    b.tick(rt, 0x41100000, 0x00)?; // 9
+    b.fault_tick(rt, 0x41100000, 0x80)?; // 9
+    b.tick(rt, 0x41100000, 0x00)?; // 9
+    b.warm(rt)?;
+    b.tick(rt, 0x41100000, 0x00) // 9
 }
 
 // SET_TOT acts in every Auto tick, whatever its input, under the status of run, and in no other mode.
 fn reset_and_preset(rt: &impl Print) -> io::Result<()> {
     println!(rt; "reset and preset")?;
-    let mut st = at(123456);
-    let mut s = settings(rt, 0x08, 1, 0, 1, 0x00000000)?;
-    st = step(rt, s, st, false, 0x3f800000, 0x80)?; // 1
-    st = at(123456);
-    st = step(rt, s, st, false, 0x3f800000, 0x0d)?; // 1
-    st = step(rt, s, st, false, 0x7fc00000, 0x80)?; // NaN
-    s = settings(rt, 0x08, 2, 0, 2, 0x3e947ae1)?;
+    let mut b = fresh(settings(rt, 0x08, 1, 0, 1, 0x00000000)?);
+    b.state = at(123456);
+    b.tick(rt, 0x3f800000, 0x80)?; // 1
+    b.state = at(123456);
+    b.tick(rt, 0x3f800000, 0x0d)?; // 1
+    b.tick(rt, 0x7fc00000, 0x80)?; // NaN
+    b.settings = settings(rt, 0x08, 2, 0, 2, 0x3e947ae1)?;
     for (bits, status) in [
         (0x3f800000, 0x80), // 1
         (0x3f800000, 0xc0), // 1
         (0x7f800000, 0x80), // inf
     ] {
-        st = step(rt, s, st, false, bits, status)?;
+        b.tick(rt, bits, status)?;
     }
-    s = settings(rt, 0x08, 2, 3, 0, 0x4e6e6b28)?;
-    st = step(rt, s, st, false, 0x3f800000, 0x80)?; // 1
-    s = settings(rt, 0x08, 2, 0, 0, 0xce6e6b28)?;
-    st = step(rt, s, st, false, 0x3f800000, 0x00)?; // 1
-    s = settings(rt, 0x08, 2, 0, 0, 0xbaf9096c)?;
-    st = step(rt, s, st, false, 0x3f800000, 0x80)?; // 1
-    s = settings(rt, 0x08, 9, 0, 0, 0x3af9096c)?;
-    st = step(rt, s, st, false, 0x3f800000, 0x80)?; // 1
-    s = settings(rt, 0x10, 1, 0, 0, 0x00000000)?;
-    st = step(rt, s, st, false, 0x3f800000, 0x80)?; // 1
-    s = settings(rt, 0x80, 1, 0, 0, 0x00000000)?;
-    st = step(rt, s, st, false, 0x3f800000, 0x80)?; // 1
-    s = settings(rt, 0x08, 1, 0, 0, 0x00000000)?;
-    st = step(rt, s, st, true, 0x3f800000, 0x80)?; // 1
-    s = settings(rt, 0x08, 0, 0, 0, 0x00000000)?;
-    st = step(rt, s, st, false, 0x3f800000, 0x80)?; // 1
-    Ok(())
+    b.settings = settings(rt, 0x08, 2, 3, 0, 0x4e6e6b28)?;
+    b.tick(rt, 0x3f800000, 0x80)?; // 1
+    b.settings = settings(rt, 0x08, 2, 0, 0, 0xce6e6b28)?;
+    b.tick(rt, 0x3f800000, 0x00)?; // 1
+    b.settings = settings(rt, 0x08, 2, 0, 0, 0xbaf9096c)?;
+    b.tick(rt, 0x3f800000, 0x80)?; // 1
+    b.settings = settings(rt, 0x08, 9, 0, 0, 0x3af9096c)?;
+    b.tick(rt, 0x3f800000, 0x80)?; // 1
+    b.settings = settings(rt, 0x10, 1, 0, 0, 0x00000000)?;
+    b.tick(rt, 0x3f800000, 0x80)?; // 1
+    b.settings = settings(rt, 0x80, 1, 0, 0, 0x00000000)?;
+    b.tick(rt, 0x3f800000, 0x80)?; // 1
+    b.settings = settings(rt, 0x08, 1, 0, 0, 0x00000000)?;
+    b.fault_tick(rt, 0x3f800000, 0x80)?; // 1
+    b.settings = settings(rt, 0x08, 0, 0, 0, 0x00000000)?;
+    b.tick(rt, 0x3f800000, 0x80) // 1
 }
 
 // A written TOTAL is set at once and shown by the next tick outside O/S; its status is for Man ticks alone.
 fn operator(rt: &impl Print) -> io::Result<()> {
     println!(rt; "operator")?;
-    let mut st = tot::fresh();
-    let mut s = settings(rt, 0x08, 0, 0, 0, 0x00000000)?;
-    st = step(rt, s, st, false, 0x3f800000, 0x80)?; // 1
-    s = settings(rt, 0x10, 0, 0, 0, 0x00000000)?;
-    st = step(rt, s, st, false, 0x3f800000, 0x80)?; // 1
-    st = write(rt, st, 0x3e947ae1, 0xa7)?;
-    st = step(rt, s, st, false, 0x3f800000, 0x00)?; // 1
-    st = step(rt, s, st, false, 0x7fc00000, 0x80)?; // NaN
-    st = write(rt, st, 0xbaf9096c, 0x00)?;
-    st = step(rt, s, st, true, 0x3f800000, 0x80)?; // 1
-    st = step(rt, s, st, false, 0x3f800000, 0x80)?; // 1
-    st = write(rt, st, 0x4e6e6b28, 0xff)?;
-    s = settings(rt, 0x80, 0, 0, 0, 0x00000000)?;
-    st = step(rt, s, st, false, 0x3f800000, 0x80)?; // 1
-    s = settings(rt, 0x08, 0, 0, 0, 0x00000000)?;
-    st = step(rt, s, st, false, 0x3f800000, 0x81)?; // 1
-    s = settings(rt, 0x10, 0, 0, 0, 0x00000000)?;
-    st = step(rt, s, st, false, 0x3f800000, 0x81)?; // 1
-    st = write(rt, st, 0x40000000, 0x11)?;
-    st = warm(rt, st)?;
-    st = step(rt, s, st, false, 0x3f800000, 0x80)?; // 1
-    Ok(())
+    let mut b = fresh(settings(rt, 0x08, 0, 0, 0, 0x00000000)?);
+    b.tick(rt, 0x3f800000, 0x80)?; // 1
+    b.settings = settings(rt, 0x10, 0, 0, 0, 0x00000000)?;
+    b.tick(rt, 0x3f800000, 0x80)?; // 1
+    b.write(rt, 0x3e947ae1, 0xa7)?;
+    b.tick(rt, 0x3f800000, 0x00)?; // 1
+    b.tick(rt, 0x7fc00000, 0x80)?; // NaN
+    b.write(rt, 0xbaf9096c, 0x00)?;
+    b.fault_tick(rt, 0x3f800000, 0x80)?; // 1
+    b.tick(rt, 0x3f800000, 0x80)?; // 1
+    b.write(rt, 0x4e6e6b28, 0xff)?;
+    b.settings = settings(rt, 0x80, 0, 0, 0, 0x00000000)?;
+    b.tick(rt, 0x3f800000, 0x80)?; // 1
+    b.settings = settings(rt, 0x08, 0, 0, 0, 0x00000000)?;
+    b.tick(rt, 0x3f800000, 0x81)?; // 1
+    b.settings = settings(rt, 0x10, 0, 0, 0, 0x00000000)?;
+    b.tick(rt, 0x3f800000, 0x81)?; // 1
+    b.write(rt, 0x40000000, 0x11)?;
+    b.warm(rt)?;
+    b.tick(rt, 0x3f800000, 0x80) // 1
 }
 
 // The fault flag and the target; another target counts as Auto.
 fn modes(rt: &impl Print) -> io::Result<()> {
     println!(rt; "modes")?;
-    let mut st = tot::fresh();
-    let mut s = settings(rt, 0x80, 0, 0, 0, 0x00000000)?;
-    st = step(rt, s, st, false, 0x3f800000, 0x80)?; // 1
-    s = settings(rt, 0x08, 0, 0, 0, 0x00000000)?;
-    st = step(rt, s, st, false, 0x3f800000, 0x80)?; // 1
-    st = step(rt, s, st, true, 0x3f800000, 0x80)?; // 1
-    s = settings(rt, 0x10, 0, 0, 0, 0x00000000)?;
-    st = step(rt, s, st, true, 0x3f800000, 0x80)?; // 1
-    st = step(rt, s, st, false, 0x3f800000, 0x80)?; // 1
-    s = settings(rt, 0x02, 0, 0, 0, 0x00000000)?;
-    st = step(rt, s, st, false, 0x3f800000, 0x80)?; // 1
-    s = settings(rt, 0x08, 0, 0, 0, 0x00000000)?;
-    st = step(rt, s, st, false, 0x3f800000, 0x00)?; // 1
-    Ok(())
+    let mut b = fresh(settings(rt, 0x80, 0, 0, 0, 0x00000000)?);
+    b.tick(rt, 0x3f800000, 0x80)?; // 1
+    b.settings = settings(rt, 0x08, 0, 0, 0, 0x00000000)?;
+    b.tick(rt, 0x3f800000, 0x80)?; // 1
+    b.fault_tick(rt, 0x3f800000, 0x80)?; // 1
+    b.settings = settings(rt, 0x10, 0, 0, 0, 0x00000000)?;
+    b.fault_tick(rt, 0x3f800000, 0x80)?; // 1
+    b.tick(rt, 0x3f800000, 0x80)?; // 1
+    b.settings = settings(rt, 0x02, 0, 0, 0, 0x00000000)?;
+    b.tick(rt, 0x3f800000, 0x80)?; // 1
+    b.settings = settings(rt, 0x08, 0, 0, 0, 0x00000000)?;
+    b.tick(rt, 0x3f800000, 0x00) // 1
 }
 
 fn main(rt: HostRuntime) -> io::Result<()> {

@@ -42,6 +42,8 @@ pub enum Refusal {
 }
 
 impl Refusal {
+    // By a `match`, which says of each ground alone what its number is; an enum with numbers takes no two alike, and so would
+    // hide the mistake from the proof.
     pub fn number(self) -> u8
         ensures { result ≡ refusal_number self }
     {

@@ -25,7 +25,7 @@ pub struct Status {
     pub limits: Limits,
 }
 
-// The case of a number 0 to 3; a larger one counts as 3.
+// The case of a number 0 to 3; a larger one counts as 3. The three others are dropped.
 fn case_of<T: Drop>(n: u8, zero: T, one: T, two: T, three: T) -> T
     ensures { result ≡ case_of zero one two three n }
 {

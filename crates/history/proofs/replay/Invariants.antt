@@ -1,9 +1,12 @@
 use mathlib.Core.Path.{◌≡◌}
-use lib.ListN.{length}
-use Prim.Native.Nat.{◌-◌}
+use lib.ListN.{length, get_or}
+use Prim.Native.Nat.{ℕ, ◌<◌}
 use Rattle.device.specs.Factory.{factory_device}
-use Rattle.history.proofs.Run.{run_from}
+use Rattle.history.proofs.Run.{runs}
 use Rattle.history.proofs.replay.Given as goal
 
-abbrev pub invariant-loop : goal.invariant-loop
-invariant-loop l = run_from (length l.calls - l.counter) l.calls l.at l.device ≡ run_from (length l.calls) l.calls 0 factory_device
+abbrev pub invariant-loop-reader : goal.invariant-loop-reader
+invariant-loop-reader l = (runs l.reader.left.now l.device ≡ runs l.calls factory_device) × ((i : ℕ) → get_or l.reader.left.now i 0 < 256)
+
+abbrev pub decreases-loop-reader : goal.decreases-loop-reader
+decreases-loop-reader l = length l.reader.left.now

@@ -1,33 +1,17 @@
--- `parameters::entry_of` meets its contract: each arm's number picks its block.
+-- `parameters::entry_of` meets its contract: what is left are the rows with floats, whose numbers are computed.
 -- Assumes nothing.
-use borrow.Author.Tests.{ne_eqb}
-use Rattle.parameters.specs.Table.{entry_of, di}
+use Rattle.std.specs.Float.Ieee.{of_bits, of_int, neg}
+use Rattle.parameters.specs.Table.{entry_of, entry_in, ain, tot}
 use Rattle.parameters.proofs.entry_of.Goals as goal
 
-pub returns-in-0 : goal.returns-in-0
-unfolding entry_of
-returns-in-0 c = rw (c.physical_entry.ensures, c.in-0.is)
+pub returns-in-1-eq16 : goal.returns-in-1-eq16
+unfolding entry_of entry_in ain of_bits of_int
+returns-in-1-eq16 c = rw (c.new-in-1-eq16.ensures, c.in-1-eq16.is-0, c.in-1-eq16.is-1)
 
-pub returns-in-1 : goal.returns-in-1
-unfolding entry_of
-returns-in-1 c = rw (c.ain_entry.ensures, c.in-1.is)
+pub returns-in-2-eq10 : goal.returns-in-2-eq10
+unfolding entry_of entry_in tot of_bits of_int neg
+returns-in-2-eq10 c = rw (c.new-in-2-eq10.ensures, c.in-2-eq10.is-0, c.in-2-eq10.is-1)
 
-pub returns-in-2 : goal.returns-in-2
-unfolding entry_of
-returns-in-2 c = rw (c.tot_entry.ensures, c.in-2.is)
-
-pub returns-in-3 : goal.returns-in-3
-unfolding entry_of
-returns-in-3 c = rw (c.ao_entry.ensures, c.in-3.is)
-
-pub returns-in-4 : goal.returns-in-4
-unfolding entry_of di
-returns-in-4 c = rw (c.discrete_entry.ensures, c.in-4.is)
-
-pub returns-in-5 : goal.returns-in-5
-unfolding entry_of
-returns-in-5 c = rw (c.dout_entry.ensures, c.in-5.is)
-
-pub returns-in_default : goal.returns-in_default
-unfolding entry_of
-returns-in_default c = rw (ne_eqb _ 0 c.in_default.in_default-own.rest.0.0.0.0.0.1, ne_eqb _ 1 c.in_default.in_default-own.rest.0.0.0.0.1, ne_eqb _ 2 c.in_default.in_default-own.rest.0.0.0.1, ne_eqb _ 3 c.in_default.in_default-own.rest.0.0.1, ne_eqb _ 4 c.in_default.in_default-own.rest.0.1, ne_eqb _ 5 c.in_default.in_default-own.rest.1)
+pub returns-in-2-eq16 : goal.returns-in-2-eq16
+unfolding entry_of entry_in tot of_bits of_int neg
+returns-in-2-eq16 c = rw (c.new-in-2-eq16.ensures, c.in-2-eq16.is-0, c.in-2-eq16.is-1)

@@ -1,8 +1,8 @@
--- The factory device: each part is what its call gives.
+-- The factory device: each block is what its `default` gives.
 use Rattle.device.specs.Factory.{factory_device}
 use Rattle.parameters.specs.Table.{default_of, default_in, rows_of, physical}
 use Rattle.device.proofs.Device.factory.Goals as goal
 
 pub returns : goal.returns
 unfolding factory_device default_of default_in rows_of physical
-returns c = rw (c.default.ensures, c.fresh-5.ensures, c.fresh-4.ensures, c.fresh-3.ensures, c.fresh-2.ensures, c.fresh.ensures, c.default_dout.ensures, c.default_di.ensures, c.default_ao.ensures, c.default_tot.ensures, c.default_ain.ensures)
+returns c = rw (c.default.ensures, c.default-2.ensures, c.default-3.ensures, c.default-4.ensures, c.default-5.ensures)

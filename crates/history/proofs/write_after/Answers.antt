@@ -1,9 +1,0 @@
--- `history::write_after` meets its contract: it is the answer of the device that a list leads to.
--- Assumes nothing.
-use Rattle.history.proofs.After.{write-is}
-use Rattle.history.proofs.write_after.Goals as goal
-
-pub returns : goal.returns
-returns c =
-    let s = c.args.calls.now in
-    rw c.write.ensures.answer (write-is s (λ i. (c.type_inv.calls i).fits) _ c.device_after-device.ensures _ _ _ _)
