@@ -1,5 +1,5 @@
 -- AIN's alarms, document 01, AIN tick. One rule serves the four: what differs between a high and a low alarm is an argument. Assumes nothing.
-use Rattle.std.specs.Prelude.{ℕ, Bool, true, false, not, ◌&&◌, ◌||◌, cond, eqb, Float}
+use Rattle.std.specs.Prelude.{ℕ, ◌+◌, ◌*◌, Bool, true, false, not, ◌&&◌, ◌||◌, cond, eqb, Float}
 use Rattle.std.specs.Float.{binary32}
 use Rattle.std.specs.Float.Ieee.{add, sub, lt, le}
 use Rattle.wire.specs.Status.{quality_of}
@@ -29,6 +29,14 @@ alarms_of s stood out = record {
 -- A11: none stands after an O/S tick
 abbrev pub no_alarms : Alarms
 no_alarms = record { hi_hi = false; hi = false; lo = false; lo_lo = false }
+
+abbrev pub bit : Bool → ℕ
+bit true = 1
+bit false = 0
+
+-- P11a: each alarm that stands has its bit
+unfoldable pub alarm_byte : Alarms → ℕ
+alarm_byte a = bit a.hi_hi + 2 * bit a.hi + 4 * bit a.lo + 8 * bit a.lo_lo
 
 -- A12: the status of a usable Auto tick: with a Good input that of the first alarm that stands, in the order HI_HI, LO_LO, HI, LO; otherwise the input's
 unfoldable pub alarm_status : Alarms → ℕ → ℕ

@@ -4,7 +4,7 @@
 
 ghost use Rattle.std.specs.Prelude.{◌≡◌, true, false};
 ghost use Rattle.ain.specs.Scaling.{scaled_of, filtered};
-ghost use Rattle.ain.specs.Alarm.{alarm_stands, alarms_of, alarm_status, no_alarms};
+ghost use Rattle.ain.specs.Alarm.{alarm_stands, alarms_of, alarm_byte, alarm_status, no_alarms};
 ghost use Rattle.ain.specs.Tick.{measured, fail_safe_out, usable_tick, unusable_tick, auto_tick, man_tick, out_of_service_tick, tick_of};
 ghost use Rattle.ain.specs.State.{fresh_state, operated_state, warm_started};
 
@@ -13,8 +13,9 @@ use linearisation::Table;
 use numbers::floats::{bits_of, float_of, is_finite};
 use scaling::Scale;
 use wire::Pair;
+use wire::status::Quality;
 
-// The stored parameters.
+// The stored parameters; codes are numbers, as C holds them and as words are stored.
 #[repr(C)]
 #[derive(Clone, Copy)]
 pub struct Settings {
@@ -137,12 +138,23 @@ impl Alarms {
         self.lo_lo = low_stands(self.lo_lo, s.lo_lo_lim, hys, out);
     }
 
+    // The byte by which they are read: a bit for each.
+    #[tactic(auto, unfolding(crate::specs::Alarm::alarm_byte))]
+    pub fn byte(self) -> u8
+        ensures { result ≡ alarm_byte self }
+    {
+        u8::from(self.hi_hi)
+            + 2 * u8::from(self.hi)
+            + 4 * u8::from(self.lo)
+            + 8 * u8::from(self.lo_lo)
+    }
+
     // The status of a usable tick: the alarms' in its place where the input's quality is 2.
     #[tactic(auto, unfolding(crate::specs::Alarm::alarm_status))]
     fn status(self, status: u8) -> u8
         ensures { result ≡ alarm_status self status }
     {
-        if wire::quality(status) != 2 {
+        if wire::quality(status) != Quality::Good {
             return status;
         }
         match self {

@@ -5,8 +5,6 @@
 // limit, a table used under LIN_TYPE 0, after scaling or for usable ticks alone.
 #![tactic(auto)]
 
-ghost use Rattle.std.specs.Prelude.{◌≤◌};
-
 use ain::{Settings, State};
 use linearisation::Table;
 use numbers::floats::{bits_of, float_of};
@@ -14,14 +12,9 @@ use scaling::Scale;
 use std::io;
 use wire::Pair;
 
-// A bit of the alarm byte.
-fn bit(stands: bool, value: u64) -> u64
-    ensures { result ≤ value }
-{
-    if stands { value } else { 0 }
-}
-
 // A block with its parameters and its table. Each step of it writes a line.
+// The other blocks' programs have such steps too, some 40 lines in each: one text for all would need a trait over the types of
+// settings, state and input, and each writes other values in its line.
 #[derive(Clone, Copy)]
 struct Block {
     settings: Settings,
@@ -41,14 +34,12 @@ impl Block {
     fn show(&self, rt: &impl Print) -> io::Result<()> {
         let state = self.state;
         let out = state.out;
-        let alarms = state.alarms;
-        let byte = bit(alarms.hi_hi, 1)
-            + bit(alarms.hi, 2)
-            + bit(alarms.lo, 4)
-            + bit(alarms.lo_lo, 8);
         println!(rt;
-            ": {:08x} {:02x} {:02x} {byte:x}",
-            out.bits, out.status, state.mode
+            ": {:08x} {:02x} {:02x} {:x}",
+            out.bits,
+            out.status,
+            state.mode,
+            state.alarms.byte()
         )
     }
 
@@ -86,6 +77,7 @@ impl Block {
     }
 }
 
+// `ao_vectors` has this too: in `scaling` it would be a public function with a contract and edits to refuse, to spare one line.
 fn scale(low: f32, high: f32) -> Scale {
     Scale { low, high }
 }

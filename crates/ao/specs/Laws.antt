@@ -9,7 +9,7 @@ use Rattle.numbers.specs.Floats.{float_of, bits_of}
 use Rattle.numbers.specs.FloatLaws.{float_back, sub-right}
 use Rattle.scaling.specs.Scaling.{fraction_of, at_fraction}
 use Rattle.scaling.specs.Laws.{at_fraction-unfinished}
-use Rattle.blocks.specs.Common.{actual_mode}
+use Rattle.blocks.specs.Common.{actual_mode, of_pair}
 use Rattle.blocks.specs.Laws.{led-holds, given_holds}
 use Rattle.ao.specs.declared.Settings.{Settings}
 use Rattle.ao.specs.declared.State.{State}
@@ -45,7 +45,7 @@ pub out-finite : (s : Settings) (x : State) (fault : Bool) → finite (float_of 
     → finite (float_of (tick_of s x fault).state.out.bits) ≡ true
 unfolding tick_of ticked_with given_in given_by_input given_by
 out-finite s x fault h o =
-    given_holds finite_bits (actual_mode fault s.target) x.out.bits x.operator.bits x.operator.status _ h o
+    given_holds finite_bits (actual_mode fault s.target) x.out.bits (of_pair x.operator) _ h o
     (led-holds (λ (w : Float). Unit) finite_bits (out_of s) x.out.bits h (λ w u. out-of-finite s w) s.fsafe_time s.fsafe_type _ _ tt tt)
   where
     finite_bits : ℕ → Type 0

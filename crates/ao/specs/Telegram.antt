@@ -6,14 +6,15 @@ use Rattle.wire.specs.declared.Pair.{Pair}
 use Rattle.wire.specs.Bytes.{pair_of}
 use Rattle.ao.specs.declared.Input.{Input}
 use Rattle.ao.specs.declared.State.{State}
+use Rattle.blocks.specs.InputBlock.{present}
 use Rattle.blocks.specs.FailSafe.{after_telegram}
 use Rattle.blocks.specs.Output.{TakenOf, telegram_by}
 use Rattle.ao.specs.State.{input_of, input_from}
 
--- O1: an input after a telegram on it, by whether its value is finite
+-- O1: an input after a telegram on it, by its value if that is finite
 unfoldable pub input_after : Input → Pair → Input
 input_after input pair =
-    input_from (after_telegram pair.status (finite (float_of pair.bits)) (float_of pair.bits) (input_of input))
+    input_from (after_telegram pair.status (present (finite (float_of pair.bits)) (float_of pair.bits)) (input_of input))
 
 -- C5: input 0 is SP and 1 is RCAS_IN; the other input and the rest unchanged
 unfoldable pub taken_on : State → ℕ → Pair → State

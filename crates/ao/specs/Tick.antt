@@ -5,7 +5,7 @@ use Rattle.std.specs.Float.Ieee.{sub}
 use Rattle.std.specs.Float.Ieee.Scale.{finite}
 use Rattle.numbers.specs.Floats.{float_of, bits_of}
 use Rattle.scaling.specs.Scaling.{fraction_of, at_fraction}
-use Rattle.blocks.specs.Common.{rcas, actual_mode}
+use Rattle.blocks.specs.Common.{rcas, actual_mode, as_pair, of_pair}
 use Rattle.ao.specs.declared.Settings.{Settings}
 use Rattle.ao.specs.declared.Input.{Input}
 use Rattle.ao.specs.declared.State.{State}
@@ -56,7 +56,7 @@ input_used state mode = cond (eqb mode rcas) state.rcas_in state.sp
 -- what a tick gives in its actual mode
 unfoldable pub given_in : Settings → State → ℕ → Given ℕ
 given_in s state mode =
-    by_mode mode state.out.bits state.operator.bits state.operator.status (given_by_input s state.out.bits (input_used state mode))
+    by_mode mode state.out.bits (of_pair state.operator) (given_by_input s state.out.bits (input_used state mode))
 
 -- C4: an order as the tick answers it
 abbrev pub drive_order : Order ℕ → Order Float
@@ -73,7 +73,7 @@ ticked_with state mode g =
     record {
       state =
           record {
-            out = record { bits = g.value; status = g.status };
+            out = as_pair g.out;
             mode = mode;
             operator = state.operator;
             sp = input_after_tick state.sp;

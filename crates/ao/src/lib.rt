@@ -1,6 +1,7 @@
 // AO, the analog output block (document 01, AO tick): setpoint telegrams on two inputs, fail-safe, scaling, and the
-// order that drives the valve. What DO has too is in `blocks`, over the kind of value; here is AO's own, and its structs,
-// which C holds and which therefore are not generic.
+// order that drives the valve. What DO has too is in `blocks`, over the kind of value, but for `Input` and the methods of
+// `State`: C holds these structs, so they are not generic, and a trait over AO's and DO's would need an accessor with a
+// contract for each field that a method touches, more lines than the methods have.
 #![tactic(auto)]
 
 ghost use Rattle.std.specs.Prelude.{◌≡◌};
@@ -14,7 +15,7 @@ use numbers::floats::{bits_of, float_of, is_finite};
 use scaling::Scale;
 use wire::{Pair, Refusal};
 
-// The stored parameters that the tick goes by.
+// The stored parameters that the tick goes by; codes are numbers, as C holds them and as words are stored.
 #[repr(C)]
 #[derive(Clone, Copy)]
 pub struct Settings {
@@ -83,7 +84,7 @@ impl Input {
     {
         let mut setpoint = Setpoint::from(*self);
         let value = float_of(pair.bits);
-        setpoint.hear(pair.status, value, is_finite(value));
+        setpoint.hear(pair.status, is_finite(value).then_some(value));
         *self = Input::from(setpoint);
     }
 
@@ -132,10 +133,7 @@ impl Drive for Settings {
     #[tactic(auto, unfolding(crate::specs::Tick::out_of))]
     fn scaled(&self, w: f32) -> Option<u32> {
         let out = self.scaled_out(w);
-        if is_finite(out) {
-            return Some(bits_of(out));
-        }
-        None
+        is_finite(out).then_some(bits_of(out))
     }
 }
 
@@ -222,10 +220,7 @@ impl State {
     {
         let mode = blocks::actual_mode(fault, settings.target);
         let given = self.given(settings, mode);
-        self.out = Pair {
-            bits: given.value,
-            status: given.status,
-        };
+        self.out = Pair::from(given.out);
         self.mode = mode;
         self.sp.tick();
         self.rcas_in.tick();
@@ -233,7 +228,7 @@ impl State {
     }
 }
 
-// An order as the tick answers it, OUT's bits as a value.
+// An order as the tick answers it, OUT's bits as a value. No From, as both types are of `blocks`, which knows no `float_of`.
 fn driven(order: Order<u32>) -> Order<f32>
     ensures { result ≡ drive_order order }
 {

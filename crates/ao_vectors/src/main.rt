@@ -9,11 +9,14 @@ use scaling::Scale;
 use std::io;
 use wire::Pair;
 
+// `ain_vectors` has this too: in `scaling` it would be a public function with a contract and edits to refuse, to spare one line.
 fn scale(low: f32, high: f32) -> Scale {
     Scale { low, high }
 }
 
 // A block with its parameters. Each step of it writes a line, but for `ticks`.
+// The other blocks' programs have such steps too, some 40 lines in each: one text for all would need a trait over the types of
+// settings, state and input, and each writes other values in its line.
 #[derive(Clone, Copy)]
 struct Block {
     settings: Settings,
@@ -25,7 +28,7 @@ fn fresh(rt: &impl Print, title: &str) -> io::Result<Block> {
     println!(rt; "# {title}")?;
     Ok(Block {
         settings: Settings {
-            target: 0x08,
+            target: blocks::AUTO,
             pv_scale: scale(0.0, 100.0),
             out_scale: scale(0.0, 100.0),
             fsafe_time: 0,
@@ -147,7 +150,7 @@ fn statuses(rt: &impl Print) -> io::Result<()> {
     b.telegram(rt, 0, 0xff80_0001, 0x80)?;
     b.sp(rt, 70.0, 0x7f)?;
     b.tick(rt)?;
-    b.settings.target = 0x02;
+    b.settings.target = blocks::RCAS;
     b.rcas_in(rt, 75.0, 0x80)?;
     b.tick(rt)
 }
@@ -183,11 +186,11 @@ fn silence(rt: &impl Print) -> io::Result<()> {
     b.settings.fsafe_time = 3;
     b.sp(rt, 25.0, 0x80)?;
     b.faulty_tick(rt)?;
-    b.settings.target = 0x10;
+    b.settings.target = blocks::MAN;
     b.tick(rt)?;
-    b.settings.target = 0x80;
+    b.settings.target = blocks::OUT_OF_SERVICE;
     b.tick(rt)?;
-    b.settings.target = 0x08;
+    b.settings.target = blocks::AUTO;
     b.tick(rt)?;
     b.sp(rt, 75.0, 0x40)?;
     b.telegram(rt, 0, 0xffc0_0000, 0x80)?;
@@ -214,21 +217,21 @@ fn interleaved(rt: &impl Print) -> io::Result<()> {
     let mut b = fresh(rt, "both inputs")?;
     b.settings.fsafe_time = 2;
     b.sp(rt, 50.0, 0x80)?;
-    b.settings.target = 0x02;
+    b.settings.target = blocks::RCAS;
     b.tick(rt)?;
     b.rcas_in(rt, 25.0, 0xc0)?;
     b.tick(rt)?;
-    b.settings.target = 0x08;
+    b.settings.target = blocks::AUTO;
     b.tick(rt)?;
     b.tick(rt)?;
-    b.settings.target = 0x02;
+    b.settings.target = blocks::RCAS;
     b.tick(rt)?;
     b.sp(rt, 75.0, 0x80)?;
     b.tick(rt)?;
-    b.settings.target = 0x08;
+    b.settings.target = blocks::AUTO;
     b.rcas_in(rt, 10.0, 0xe0)?;
     b.tick(rt)?;
-    b.settings.target = 0x02;
+    b.settings.target = blocks::RCAS;
     b.tick(rt)
 }
 
@@ -292,9 +295,9 @@ fn warm(rt: &impl Print) -> io::Result<()> {
     b.warm_start(rt)?;
     b.settings.fsafe_type = 2;
     b.tick(rt)?;
-    b.settings.target = 0x10;
+    b.settings.target = blocks::MAN;
     b.tick(rt)?;
-    b.settings.target = 0x08;
+    b.settings.target = blocks::AUTO;
     b.settings.fsafe_type = 1;
     b.tick(rt)?;
     b.sp(rt, 25.0, 0x80)?;
@@ -346,7 +349,7 @@ fn closing(rt: &impl Print) -> io::Result<()> {
     b.settings.fsafe_type = 0;
     b.settings.fsafe_value = 25.0;
     b.tick(rt)?;
-    b.settings.target = 0x10;
+    b.settings.target = blocks::MAN;
     b.operated(rt, 25.0, 0x80)?;
     b.tick(rt)
 }
@@ -390,7 +393,7 @@ fn zeros(rt: &impl Print) -> io::Result<()> {
     b.telegram(rt, 0, 0x8000_0000, 0x80)?;
     b.tick(rt)?;
     b.operated(rt, minus_zero, 0x80)?;
-    b.settings.target = 0x10;
+    b.settings.target = blocks::MAN;
     b.tick(rt)
 }
 
@@ -398,20 +401,20 @@ fn zeros(rt: &impl Print) -> io::Result<()> {
 // operator's. O/S keeps the value, with Rest under type 2 too.
 fn operator(rt: &impl Print) -> io::Result<()> {
     let mut b = fresh(rt, "Man and O/S")?;
-    b.settings.target = 0x10;
+    b.settings.target = blocks::MAN;
     b.tick(rt)?;
     b.operated(rt, 33.0, 0x83)?;
     b.faulty_tick(rt)?;
     b.tick(rt)?;
-    b.settings.target = 0x08;
+    b.settings.target = blocks::AUTO;
     b.settings.fsafe_type = 2;
     b.tick(rt)?;
-    b.settings.target = 0x80;
+    b.settings.target = blocks::OUT_OF_SERVICE;
     b.tick(rt)?;
-    b.settings.target = 0x02;
+    b.settings.target = blocks::RCAS;
     b.faulty_tick(rt)?;
     b.tick(rt)?;
-    b.settings.target = 0x10;
+    b.settings.target = blocks::MAN;
     b.tick(rt)
 }
 
@@ -428,7 +431,7 @@ fn refused(rt: &impl Print) -> io::Result<()> {
     b.sent(rt, 0, b"\x42\x48\x00\x00\x80")?;
     b.tick(rt)?;
     b.sent(rt, 1, b"\x41\xc8\x00\x00\xc0")?;
-    b.settings.target = 0x02;
+    b.settings.target = blocks::RCAS;
     b.tick(rt)
 }
 

@@ -2,10 +2,12 @@
 -- nothing here depends on the kind of value. Assumes nothing.
 use Rattle.std.specs.Prelude.{ℕ, ◌+◌, min, Bool, true, false, cond, not, ◌&&◌, ◌||◌, eqb, ltb, Option, None, Some}
 use Rattle.wire.specs.Status.{quality_of, sub_status_of}
-use Rattle.blocks.specs.Common.{out_of_service, man}
+use Rattle.blocks.specs.Common.{out_of_service, man, held_at}
+use Rattle.blocks.specs.declared.PairOf.{PairOf}
+use Rattle.blocks.specs.InputBlock.{present}
 use Rattle.blocks.specs.declared.setpoint.Setpoint.{Setpoint}
 use Rattle.blocks.specs.declared.setpoint.Case.{Case}
-use Rattle.blocks.specs.declared.setpoint.Case.TheVariants.{Following, Fallback, Held, NothingHeld, Safety}
+use Rattle.blocks.specs.declared.setpoint.Case.TheVariants.{Following, Fallback, Held, Safety}
 use Rattle.blocks.specs.declared.setpoint.Order.TheVariants.{Position, Safe, Rest}
 use Rattle.blocks.specs.declared.setpoint.Given.{Given}
 use Rattle.blocks.specs.declared.setpoint.Class.{Class}
@@ -39,11 +41,15 @@ initiates status = eqb (class_number (class_of status)) 2
 unfoldable pub emptied : {A : Type 0} → A → Setpoint A
 emptied zero = record { some = false; value = zero; silence = 0; ifs = false }
 
--- O2: after a telegram: a usable one is the last one and restarts n; an IFS is remembered; any other leaves all as it was
-unfoldable pub after_telegram : {A : Type 0} → ℕ → Bool → A → Setpoint A → Setpoint A
-after_telegram status finite_value value input =
-    cond (usable status finite_value) (record { some = true; value = value; silence = 0; ifs = false })
-    (cond (initiates status) (record { some = input.some; value = input.value; silence = input.silence; ifs = true }) input)
+-- O2: after a telegram that is not usable: an IFS is remembered; any other leaves all as it was
+abbrev pub not_followed : {A : Type 0} → ℕ → Setpoint A → Setpoint A
+not_followed status input = cond (initiates status) (record { some = input.some; value = input.value; silence = input.silence; ifs = true }) input
+
+-- O2: after a telegram, by its value if that is finite: a usable one is the last one and restarts n
+unfoldable pub after_telegram : {A : Type 0} → ℕ → Option A → Setpoint A → Setpoint A
+after_telegram status None input = not_followed status input
+after_telegram status (Some value) input =
+    cond (usable status true) (record { some = true; value = value; silence = 0; ifs = false }) (not_followed status input)
 
 -- O4: n at the next tick: this one, whatever its mode, is one more after the input's last usable telegram
 unfoldable pub silence_after : Bool → ℕ → ℕ
@@ -62,7 +68,7 @@ fail_safe_acts came n ifs time = not came || ltb time n || ifs
 -- O7: by FSAFE_TYPE: 0 falls back on FSAFE_VALUE, 1 holds the value last usable, if any, 2 is the safety case; a type over 2, which no write stores, is as 2
 unfoldable pub fail_safe_case : {A : Type 0} → ℕ → A → Bool → A → Case A
 fail_safe_case kind fsafe_value came last =
-    cond (eqb kind 0) (Fallback fsafe_value) (cond (eqb kind 1) (cond came (Held last) NothingHeld) Safety)
+    cond (eqb kind 0) (Fallback fsafe_value) (cond (eqb kind 1) (Held (present came last)) Safety)
 
 -- O5, O6: the case of a tick in Auto or RCas, by FSAFE_TIME, FSAFE_TYPE and FSAFE_VALUE: where fail-safe does not act it follows the last usable telegram
 unfoldable pub case_of : {A : Type 0} → ℕ → ℕ → A → Setpoint A → Case A
@@ -72,25 +78,25 @@ case_of time kind fsafe_value input =
 -- ---- what a tick gives
 
 -- O10: a value with its status, and the order to go there
-abbrev pub positioned : {O : Type 0} → O → ℕ → Given O
-positioned value status = record { value = value; status = status; order = Position value }
+abbrev pub positioned : {O : Type 0} → PairOf O → Given O
+positioned out = record { out = out; order = Position out.value }
 
 -- O9: what scaling led to, with the case's status; the old value with 0x04 where that is not finite
 abbrev pub scaled_or : {O : Type 0} → O → ℕ → Option O → Given O
-scaled_or old status None = positioned old 0x04
-scaled_or old status (Some out) = positioned out status
+scaled_or old status None = positioned (record { value = old; status = 0x04 })
+scaled_or old status (Some out) = positioned (record { value = out; status = status })
 
 -- O6, O7: what a case leads to, `scaled` being OUT by the working value where that is finite.
 -- O8: the last two scale nothing and leave OUT's value; O7: the last gives 0x00 and orders Safe
 unfoldable pub leads_to : {A O : Type 0} → (A → Option O) → O → Case A → Given O
 leads_to scaled old (Following w) = scaled_or old 0x80 (scaled w)
 leads_to scaled old (Fallback w) = scaled_or old 0x48 (scaled w)
-leads_to scaled old (Held w) = scaled_or old 0x44 (scaled w)
-leads_to scaled old NothingHeld = positioned old 0x4C
-leads_to scaled old Safety = record { value = old; status = 0x00; order = Safe }
+leads_to scaled old (Held (Some w)) = scaled_or old 0x44 (scaled w)
+leads_to scaled old (Held None) = positioned (record { value = old; status = 0x4C })
+leads_to scaled old Safety = record { out = record { value = old; status = 0x00 }; order = Safe }
 
 -- M2, O11: what a tick gives by its actual mode: in O/S the old value under 0x1F, at Rest; in Man the operator's pair; in another mode, Auto or RCas,
 -- what the case leads to
-unfoldable pub by_mode : {O : Type 0} → ℕ → O → O → ℕ → Given O → Given O
-by_mode mode old operator operator_status led =
-    cond (eqb mode out_of_service) (record { value = old; status = 0x1F; order = Rest }) (cond (eqb mode man) (positioned operator operator_status) led)
+unfoldable pub by_mode : {O : Type 0} → ℕ → O → PairOf O → Given O → Given O
+by_mode mode old operator led =
+    cond (eqb mode out_of_service) (record { out = held_at old; order = Rest }) (cond (eqb mode man) (positioned operator) led)

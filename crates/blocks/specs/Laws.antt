@@ -10,15 +10,16 @@ use Rattle.wire.specs.Status.{quality_of, sub_status_of}
 use Rattle.wire.specs.declared.Refusal.{Refusal}
 use Rattle.blocks.specs.declared.setpoint.Class.{Class}
 use Rattle.blocks.specs.declared.setpoint.Class.TheVariants.{Usable, InitiateFailSafe, Neither}
-use Rattle.blocks.specs.Common.{out_of_service, man, in_mode, InputStatus, usable_input, input_status, good}
+use Rattle.blocks.specs.declared.PairOf.{PairOf}
+use Rattle.blocks.specs.Common.{out_of_service, man, held_at, in_mode, InputStatus, usable_input, input_status, good}
 use Rattle.blocks.specs.Discrete.{is_discrete, exchanged, inverted, discrete_value}
 use Rattle.blocks.specs.InputBlock.{present, last_usable_or, scaled_or_old, fail_safe_pair}
 use Rattle.blocks.specs.declared.setpoint.Setpoint.{Setpoint}
-use Rattle.blocks.specs.declared.setpoint.Case.TheVariants.{Following, Fallback, Held, NothingHeld, Safety}
+use Rattle.blocks.specs.declared.setpoint.Case.TheVariants.{Following, Fallback, Held, Safety}
 use Rattle.blocks.specs.declared.setpoint.Order.TheVariants.{Rest}
 use Rattle.blocks.specs.declared.setpoint.Given.{Given}
 use Rattle.blocks.specs.FailSafe.{class_of, class_number, usable, initiates, after_telegram, silence_after, fail_safe_acts, fail_safe_case, case_of}
-use Rattle.blocks.specs.FailSafe.{positioned, scaled_or, leads_to, by_mode}
+use Rattle.blocks.specs.FailSafe.{not_followed, positioned, scaled_or, leads_to, by_mode}
 use Rattle.blocks.specs.Output.{telegram_by}
 
 -- ---- discrete values
@@ -183,19 +184,29 @@ usable-excludes status finite_value = go (class_of status)
 
 -- An input after a usable telegram, after an IFS and after another, for any kind of value.
 module _ {A : Type 0} (status : ℕ) (finite_value : Bool) (value : A) (input : Setpoint A) where
+  -- the same by the flag
+  pub after-by-flag : after_telegram status (present finite_value value) input
+      ≡ cond (usable status finite_value) (record { some = true; value = value; silence = 0; ifs = false }) (not_followed status input)
+  unfolding after_telegram usable
+  after-by-flag = go finite_value (eqb (class_number (class_of status)) 1)
+    where
+      go : (f u : Bool)
+          → after_telegram status (present f value) input
+          ≡ cond (eqb (class_number (class_of status)) 1 && f) (record { some = true; value = value; silence = 0; ifs = false }) (not_followed status input)
+      go true u = refl
+      go false u = rw (and-false (eqb (class_number (class_of status)) 1))
+
   pub after-usable : usable status finite_value ≡ true
-      → after_telegram status finite_value value input ≡ record { some = true; value = value; silence = 0; ifs = false }
-  unfolding after_telegram
-  after-usable u = rw u
+      → after_telegram status (present finite_value value) input ≡ record { some = true; value = value; silence = 0; ifs = false }
+  after-usable u = after-by-flag ∙ rw u
 
   pub after-ifs : usable status finite_value ≡ false → initiates status ≡ true
-      → after_telegram status finite_value value input ≡ record { some = input.some; value = input.value; silence = input.silence; ifs = true }
-  unfolding after_telegram
-  after-ifs u i = rw (u, i)
+      → after_telegram status (present finite_value value) input
+      ≡ record { some = input.some; value = input.value; silence = input.silence; ifs = true }
+  after-ifs u i = after-by-flag ∙ rw (u, i)
 
-  pub after-other : usable status finite_value ≡ false → initiates status ≡ false → after_telegram status finite_value value input ≡ input
-  unfolding after_telegram
-  after-other u i = rw (u, i)
+  pub after-other : usable status finite_value ≡ false → initiates status ≡ false → after_telegram status (present finite_value value) input ≡ input
+  after-other u i = after-by-flag ∙ rw (u, i)
 
 -- A refused telegram leaves the state as it was.
 pub refused-keeps : {S P : Type 0} (lacking : Bool) (take : P → S) (state : S) (received : Result P Refusal) (r : Refusal)
@@ -242,63 +253,71 @@ module _ {A : Type 0} (time kind : ℕ) (fsafe_value : A) (input : Setpoint A) w
 
 -- An input's value after a telegram: whatever holds of it before, and of the telegram's where that passes, holds after it.
 pub after-telegram-holds : {A : Type 0} (Q : A → Type 0) (status : ℕ) (finite_value : Bool) (value : A) (input : Setpoint A)
-    → Q input.value → (finite_value ≡ true → Q value) → Q (after_telegram status finite_value value input).value
-unfolding after_telegram usable
-after-telegram-holds {A} Q status finite_value value input old new = go (eqb (class_number (class_of status)) 1) finite_value new (initiates status)
+    → Q input.value → (finite_value ≡ true → Q value) → Q (after_telegram status (present finite_value value) input).value
+unfolding after_telegram
+after-telegram-holds {A} Q status finite_value value input old new = go finite_value new
   where
-    go : (a f : Bool) → (f ≡ true → Q value) → (i : Bool)
-        → Q (cond {A = Setpoint A} (a && f) (record { some = true; value = value; silence = 0; ifs = false })
-        (cond i (record { some = input.some; value = input.value; silence = input.silence; ifs = true }) input)).value
-    go true true new i = new refl
-    go true false new true = old
-    go true false new false = old
-    go false f new true = old
-    go false f new false = old
+    other : Q (not_followed status input).value
+    other = by (initiates status)
+      where
+        by : (i : Bool)
+            → Q (cond {A = Setpoint A} i (record { some = input.some; value = input.value; silence = input.silence; ifs = true }) input).value
+        by true = old
+        by false = old
+
+    taken : Q value → (u : Bool)
+        → Q (cond {A = Setpoint A} u (record { some = true; value = value; silence = 0; ifs = false }) (not_followed status input)).value
+    taken v true = v
+    taken v false = other
+
+    go : (f : Bool) → (f ≡ true → Q value) → Q (after_telegram status (present f value) input).value
+    go true new = taken (new refl) (usable status true)
+    go false new = other
 
 -- Whatever holds of old OUT and of all that scaling leads to, from FSAFE_VALUE and from the input's value, holds of the value that a case leads to. What is
 -- known of these two is Q.
 module _ {A O : Type 0} (Q : A → Type 0) (P : O → Type 0) (scaled : A → Option O) (old : O) (kept : P old)
     (each : (w : A) → Q w → (out : O) → scaled w ≡ Some out → P out) where
-  scaled-holds : (status : ℕ) (o : Option O) → ((out : O) → o ≡ Some out → P out) → P (scaled_or old status o).value
+  scaled-holds : (status : ℕ) (o : Option O) → ((out : O) → o ≡ Some out → P out) → P (scaled_or old status o).out.value
   scaled-holds status None h = kept
   scaled-holds status (Some out) h = h out refl
 
   pub led-holds : (time kind : ℕ) (fsafe_value : A) (input : Setpoint A) → Q fsafe_value → Q input.value
-      → P (leads_to scaled old (case_of time kind fsafe_value input)).value
+      → P (leads_to scaled old (case_of time kind fsafe_value input)).out.value
   unfolding leads_to case_of fail_safe_case
   led-holds time kind fsafe_value input f v =
       go (fail_safe_acts input.some input.silence input.ifs time) (eqb kind 0) (eqb kind 1) input.some
     where
       go : (a b c d : Bool)
           → P (leads_to scaled old
-          (cond a (cond b (Fallback fsafe_value) (cond c (cond d (Held input.value) NothingHeld) Safety)) (Following input.value))).value
+          (cond a (cond b (Fallback fsafe_value) (cond c (Held (present d input.value)) Safety)) (Following input.value))).out.value
       go true true c d = scaled-holds 0x48 (scaled fsafe_value) (each fsafe_value f)
       go true false true true = scaled-holds 0x44 (scaled input.value) (each input.value v)
       go true false true false = kept
       go true false false d = kept
       go false b c d = scaled-holds 0x80 (scaled input.value) (each input.value v)
 
-pub given_holds : {O : Type 0} (P : O → Type 0) (mode : ℕ) (old operator : O) (operator_status : ℕ) (led : Given O) → P old → P operator → P led.value
-    → P (by_mode mode old operator operator_status led).value
+pub given_holds : {O : Type 0} (P : O → Type 0) (mode : ℕ) (old : O) (operator : PairOf O) (led : Given O) → P old → P operator.value → P led.out.value
+    → P (by_mode mode old operator led).out.value
 unfolding by_mode
-given_holds P mode old operator operator_status led h o l = go (eqb mode 0x80) (eqb mode 0x10)
+given_holds P mode old operator led h o l = go (eqb mode 0x80) (eqb mode 0x10)
   where
-    go : (a b : Bool) → P (cond a (record { value = old; status = 0x1F; order = Rest }) (cond b (positioned operator operator_status) led)).value
+    go : (a b : Bool) → P (cond a (record { out = held_at old; order = Rest }) (cond b (positioned operator) led)).out.value
     go true b = h
     go false true = o
     go false false = l
 
 -- R15: in Auto and RCas, the actual mode being neither O/S nor Man, value, status and order are those of FSAFE_TYPE's case where fail-safe acts, and else
 -- those by the last usable telegram.
-module _ {A O : Type 0} (scaled : A → Option O) (old operator : O) (operator_status time kind : ℕ) (fsafe_value : A) (input : Setpoint A) (mode : ℕ)
+module _ {A O : Type 0} (scaled : A → Option O) (old : O) (operator : PairOf O) (time kind : ℕ) (fsafe_value : A) (input : Setpoint A) (mode : ℕ)
     (in-service : eqb mode out_of_service ≡ false) (not-Man : eqb mode man ≡ false) where
   pub gives-fail-safe : fail_safe_acts input.some input.silence input.ifs time ≡ true
-      → by_mode mode old operator operator_status (leads_to scaled old (case_of time kind fsafe_value input))
+      → by_mode mode old operator (leads_to scaled old (case_of time kind fsafe_value input))
       ≡ leads_to scaled old (fail_safe_case kind fsafe_value input.some input.value)
   unfolding by_mode
   gives-fail-safe h = rw (in-service, not-Man) (ap (leads_to scaled old) (case-fail-safe time kind fsafe_value input h))
 
   pub gives-following : fail_safe_acts input.some input.silence input.ifs time ≡ false
-      → by_mode mode old operator operator_status (leads_to scaled old (case_of time kind fsafe_value input)) ≡ leads_to scaled old (Following input.value)
+      → by_mode mode old operator (leads_to scaled old (case_of time kind fsafe_value input)) ≡ leads_to scaled old (Following input.value)
   unfolding by_mode
   gives-following h = rw (in-service, not-Man) (ap (leads_to scaled old) (case-following time kind fsafe_value input h))

@@ -11,6 +11,7 @@ ghost use Rattle.blocks.specs.InputBlock.{present, fail_safe_pair};
 
 pub mod setpoint;
 
+use wire::status::Quality;
 use wire::{Discrete, Pair};
 
 // The codes of the modes: numbers, since a device holds them, C holds the device, and a read answers them.
@@ -27,7 +28,8 @@ pub const HELD_STATUS: u8 = 0x1f;
 
 pub const FRESH_STATUS: u8 = 0x4c;
 
-// A tick's actual mode.
+// A tick's actual mode. The `tick` that picks by it stays in each of AIN, DI and TOT: a trait over it would have the ticks
+// of the three modes as ghosts and functions with contracts, more lines than the three bodies.
 #[tactic(auto, unfolding(crate::specs::Common::actual_mode))]
 pub fn actual_mode(fault: bool, target: u32) -> u32
     ensures { result ≡ actual_mode fault target }
@@ -40,7 +42,8 @@ pub fn actual_mode(fault: bool, target: u32) -> u32
 
 // ---- values and their statuses
 
-// The kinds of value: a float by its bits, and a discrete value.
+// The kinds of value: a float by its bits, and a discrete value. Not std's Default: that says only what holds of each
+// default, and a contract over any kind has to name the zero.
 pub trait Value: Copy {
     ghost ZERO: { Self };
 
@@ -184,8 +187,8 @@ pub fn input_status(status: u8, value: bool, calculated: bool) -> Result<(), u8>
     ensures { result ≡ input_status status value calculated }
 {
     match wire::quality(status) {
-        3 => Err(0x04),
-        0 => Err(status),
+        Quality::GoodCascade => Err(0x04),
+        Quality::Bad => Err(status),
         _ if !value => Err(0x10),
         _ if !calculated => Err(0x04),
         _ => Ok(()),
@@ -193,7 +196,8 @@ pub fn input_status(status: u8, value: bool, calculated: bool) -> Result<(), u8>
 }
 
 // What is given in an Auto tick that is not usable, by FSAFE_TYPE's code: FSAFE_VALUE, the value last usable, if any, or
-// the scaled one under the Bad status, and the old one where that is missing.
+// the scaled one under the Bad status, and the old one where that is missing. The code is matched here alone, and an enum
+// would be one conversion more.
 #[tactic(auto, unfolding(crate::specs::InputBlock::fail_safe_pair))]
 pub fn fail_safe_pair<V: Value>(
     kind: u32,

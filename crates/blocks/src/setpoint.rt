@@ -5,8 +5,9 @@ ghost use Rattle.std.specs.Prelude.{◌≡◌, Option};
 ghost use Rattle.blocks.specs.declared.setpoint.FailSafe.{FailSafe};
 ghost use Rattle.blocks.specs.FailSafe.{class_of, emptied, after_telegram, after_tick, fail_safe_acts, fail_safe_case, case_of, positioned, leads_to, by_mode};
 
-use crate::{HELD_STATUS, MAN, OUT_OF_SERVICE, PairOf};
+use crate::{MAN, OUT_OF_SERVICE, PairOf, Value};
 use std::cmp::min;
+use wire::status::Quality;
 
 // What a status byte makes of a telegram, its value left aside.
 #[derive(Clone, Copy, PartialEq, Eq)]
@@ -18,7 +19,8 @@ pub enum Class {
 
 // What came on a setpoint input: whether a usable telegram came since start, the value of the last one (its type's zero
 // while there is none), the ticks since (up to 65,536; 0 while there is none), and whether an IFS came with no usable one
-// after it. A flag stands beside the value, as in the blocks' states, which C holds.
+// after it. A flag stands beside the value: an Option would lose the value of a state whose flag is false, which no call
+// makes but which every contract speaks of.
 #[derive(Clone, Copy)]
 pub struct Setpoint<V> {
     pub some: bool,
@@ -33,8 +35,7 @@ pub struct Setpoint<V> {
 pub enum Case<V> {
     Following(V),
     Fallback(V),
-    Held(V),
-    NothingHeld,
+    Held(Option<V>),
     Safety,
 }
 
@@ -46,15 +47,15 @@ pub enum Order<O> {
     Rest,
 }
 
-// What a tick gives: OUT's value and status, and the drive order.
+// What a tick gives: OUT, and the drive order.
 #[derive(Clone, Copy)]
 pub struct Given<O> {
-    pub value: O,
-    pub status: u8,
+    pub out: PairOf<O>,
     pub order: Order<O>,
 }
 
-// FSAFE_TIME, FSAFE_TYPE by its code, as the settings have it, and the value to fall back on.
+// FSAFE_TIME, FSAFE_TYPE and the value to fall back on. The type is a code, as the settings have it: it is matched in one
+// place, and an enum would be one conversion more.
 #[derive(Clone, Copy)]
 pub struct FailSafe<V> {
     pub time: u32,
@@ -67,7 +68,7 @@ pub trait Drive {
     // Of a setpoint, and of OUT.
     type Value: Copy;
 
-    type Out: Copy;
+    type Out: Value;
 
     ghost fail_safe: { Self → FailSafe Self.Value };
 
@@ -85,7 +86,7 @@ pub trait Drive {
 pub fn class_of(status: u8) -> Class
     ensures { result ≡ class_of status }
 {
-    let good = matches!(wire::quality(status), 2 | 3);
+    let good = matches!(wire::quality(status), Quality::Good | Quality::GoodCascade);
     if !good {
         return Class::Neither;
     }
@@ -111,14 +112,14 @@ impl<V: Copy> Setpoint<V> {
         }
     }
 
-    // A telegram: its status, its value, and whether that may be followed.
+    // A telegram: its status, and its value where that may be followed.
     #[tactic(auto, unfolding(crate::specs::FailSafe::after_telegram, crate::specs::FailSafe::usable, crate::specs::FailSafe::initiates))]
-    pub fn hear(&mut self, status: u8, value: V, followed: bool)
-        ensures { self.new ≡ after_telegram status followed value self.old }
+    pub fn hear(&mut self, status: u8, value: Option<V>)
+        ensures { self.new ≡ after_telegram status value self.old }
     {
         match class_of(status) {
             Class::Usable => {
-                if followed {
+                if let Some(value) = value {
                     *self = Setpoint {
                         some: true,
                         value,
@@ -161,27 +162,20 @@ impl<V: Copy> Setpoint<V> {
         }
         match by.kind {
             0 => Case::Fallback(by.value),
-            1 => {
-                if self.some {
-                    Case::Held(self.value)
-                } else {
-                    Case::NothingHeld
-                }
-            }
+            1 => Case::Held(self.some.then_some(self.value)),
             _ => Case::Safety,
         }
     }
 }
 
 impl<O: Copy> Given<O> {
-    // A value with its status, and the order to go there.
-    pub fn positioned(value: O, status: u8) -> Given<O>
-        ensures { result ≡ positioned value status }
+    // A pair, and the order to go to its value.
+    pub fn positioned(out: PairOf<O>) -> Given<O>
+        ensures { result ≡ positioned out }
     {
         Given {
-            value,
-            status,
-            order: Order::Position(value),
+            out,
+            order: Order::Position(out.value),
         }
     }
 }
@@ -195,24 +189,24 @@ impl<V: Copy> Case<V> {
         let (w, status) = match self {
             Case::Following(w) => (w, 0x80),
             Case::Fallback(w) => (w, 0x48),
-            Case::Held(w) => (w, 0x44),
-            Case::NothingHeld => return Given::positioned(old, 0x4c),
+            Case::Held(Some(w)) => (w, 0x44),
+            Case::Held(None) => return Given::positioned(PairOf::new(old, 0x4c)),
             Case::Safety => {
                 return Given {
-                    value: old,
-                    status: 0x00,
+                    out: PairOf::new(old, 0x00),
                     order: Order::Safe,
                 };
             }
         };
-        match settings.scaled(w) {
-            Some(out) => Given::positioned(out, status),
-            None => Given::positioned(old, 0x04),
-        }
+        Given::positioned(match settings.scaled(w) {
+            Some(out) => PairOf::new(out, status),
+            None => PairOf::new(old, 0x04),
+        })
     }
 }
 
-// What a tick gives in its actual mode, by OUT's old value, the operator's pair and the input that the mode uses.
+// What a tick gives in its actual mode, by OUT's old value, the operator's pair and the input that the mode uses. AO and DO
+// pick it themselves: handed both inputs to pick by RCAS, this made a device's tick 19 instructions dearer.
 #[tactic(auto, unfolding(crate::specs::FailSafe::by_mode))]
 pub fn given_in<S: Drive>(
     settings: &S,
@@ -221,15 +215,14 @@ pub fn given_in<S: Drive>(
     operator: PairOf<S::Out>,
     input: &Setpoint<S::Value>,
 ) -> Given<S::Out>
-    ensures { result ≡ by_mode mode old operator.value operator.status (leads_to (S.scaled settings.now) old (case_of (S.fail_safe settings.now).time (S.fail_safe settings.now).kind (S.fail_safe settings.now).value input.now)) }
+    ensures { result ≡ by_mode mode old operator (leads_to (S.scaled settings.now) old (case_of (S.fail_safe settings.now).time (S.fail_safe settings.now).kind (S.fail_safe settings.now).value input.now)) }
 {
     match mode {
         OUT_OF_SERVICE => Given {
-            value: old,
-            status: HELD_STATUS,
+            out: PairOf::held(old),
             order: Order::Rest,
         },
-        MAN => Given::positioned(operator.value, operator.status),
+        MAN => Given::positioned(operator),
         _ => input.case(settings.fail_safe()).leads_to(settings, old),
     }
 }

@@ -13,7 +13,7 @@ ghost use Rattle.packing.specs.Packed.{packed_of, pack_answer, pack_bytes, unpac
 ghost use Rattle.capi.specs.Numbers.{version, order_numbers, discrete_order_numbers, orders_numbers, reading_numbers, unpacked_number, unpacked_into};
 
 use blocks::setpoint::Order;
-use device::{Device, Orders};
+use device::{Device, Fed, Orders};
 use parameters::Words;
 use wire::{Discrete, Pair, Refusal, answer_number};
 
@@ -136,7 +136,7 @@ pub extern "C" fn serkoviu_tick(
 ) -> OrdersNumbers
     ensures { (result ≡ orders_numbers (tick_of d.old fault ain tot di)) × (d.new ≡ (tick_of d.old fault ain tot di).device) }
 {
-    OrdersNumbers::from(d.tick(fault, ain, tot, di))
+    OrdersNumbers::from(d.tick(fault, Fed { ain, tot, di }))
 }
 
 #[unsafe(no_mangle)]
@@ -156,7 +156,7 @@ pub extern "C" fn serkoviu_write(
 ) -> u8
     ensures { (result ≡ answer_number (write_of d.old block parameter first second).answer) × (d.new ≡ (write_of d.old block parameter first second).device) }
 {
-    answer_number(d.write(block, parameter, first, second))
+    answer_number(d.write(block, parameter, Words { first, second }))
 }
 
 #[unsafe(no_mangle)]

@@ -1,8 +1,8 @@
 -- What reads give, document 01, Parameters and Refused calls, and document 02, request 3. Assumes nothing.
-use Rattle.std.specs.Prelude.{ℕ, ◌+◌, ◌*◌, Bool, true, false, cond, ◌==◌, Result, Ok, Err}
+use Rattle.std.specs.Prelude.{ℕ, cond, ◌==◌, Result, Ok, Err}
 use Rattle.wire.specs.declared.Discrete.{Discrete}
 use Rattle.wire.specs.declared.Refusal.{Refusal}
-use Rattle.ain.specs.declared.Alarms.{Alarms}
+use Rattle.ain.specs.Alarm.{alarm_byte}
 use Rattle.parameters.specs.declared.Words.{Words}
 use Rattle.parameters.specs.Table.{Entry, words, entry_of}
 use Rattle.parameters.specs.Words.{code, float, ends, given, given_d}
@@ -12,14 +12,6 @@ use Rattle.device.specs.declared.AoBlock.{AoBlock}
 use Rattle.device.specs.declared.DiBlock.{DiBlock}
 use Rattle.device.specs.declared.DoutBlock.{DoutBlock}
 use Rattle.device.specs.declared.Device.{Device}
-
-abbrev pub bit : Bool → ℕ
-bit true = 1
-bit false = 0
-
--- P11a: each alarm that stands has its bit
-unfoldable pub alarm_byte : Alarms → ℕ
-alarm_byte a = bit a.hi_hi + 2 * bit a.hi + 4 * bit a.lo + 8 * bit a.lo_lo
 
 -- P10: what every block has but 0, each beside its number, and what more a block has
 abbrev pub headed_words : ℕ → ℕ → ℕ → Words → ℕ → Words

@@ -1,6 +1,6 @@
 -- An accepted write of a block and a read of it step by step, as the code does them, and that they are what Stored and Read say. Assumes nothing.
 use Rattle.std.specs.Prelude.{◌≡◌, refl, ℕ, ◌%◌, Bool, true, false, cond, ◌==◌}
-use Rattle.std.proofs.Common.{◌∙◌}
+use Rattle.std.proofs.Common.{◌∙◌, sym, ap}
 use Rattle.wire.specs.declared.Pair.{Pair}
 use Rattle.wire.specs.declared.Discrete.{Discrete}
 use Rattle.blocks.specs.Common.{operator_after}
@@ -29,7 +29,6 @@ use Rattle.device.specs.declared.DoutBlock.{DoutBlock}
 use Rattle.device.specs.declared.Head.{Head}
 use Rattle.device.specs.Stored.{ain_settings, tot_settings, ao_settings, di_settings, dout_settings, rev_after, entered_by, operator_by}
 use Rattle.device.specs.Stored.{ain_written, tot_written, ao_written, di_written, dout_written}
-use Rattle.device.specs.Read.{headed_words, ain_more, tot_more, ao_more, di_more, dout_more, ain_words, tot_words, ao_words, di_words, dout_words}
 
 abbrev pub head_of : ℕ → ℕ → ℕ → Head
 head_of rev target mode = record { st_rev = rev; target = target; mode = mode }
@@ -63,6 +62,25 @@ steps at set counted written taken operator true target static = refl
 steps at set counted written taken operator false true static = refl
 steps at set counted written taken operator false false static = refl
 
+-- and over the block: `make` gives it of its settings, its state and its ST_REV; `set` changes the settings alone, `counted` ST_REV alone
+module _ {B S T P : Type 0} (make : S → T → ℕ → B) (setting : S → S) (operated : T → P → T) (set counted : B → B) where
+  pub written-in-steps :
+      (sets : (s : S) (t : T) (rev : ℕ) → set (make s t rev) ≡ make (setting s) t rev)
+      (counts : (s : S) (t : T) (rev : ℕ) → counted (make s t rev) ≡ make s t (rev_after true rev))
+      (s : S) (t : T) (rev : ℕ) (written taken operator : P) (output target static : Bool)
+      → make (setting s) (operated t (cond output written (cond target taken operator))) (rev_after static rev)
+      ≡ in_steps (make s (operated t written) rev) (make s (operated t taken) rev) (make s (operated t operator) rev) set counted output target static
+  unfolding rev_after
+  written-in-steps sets counts s t rev written taken operator output target static =
+      stored (cond output written (cond target taken operator)) static
+      ∙ steps (λ (p : P). make s (operated t p) rev) set counted written taken operator output target static
+    where
+      stored : (p : P) (static : Bool)
+          → make (setting s) (operated t p) (rev_after static rev)
+          ≡ (let stored = set (make s (operated t p) rev) in cond static (counted stored) stored)
+      stored p true = sym (ap counted (sets s (operated t p) rev) ∙ counts (setting s) (operated t p) rev)
+      stored p false = sym (sets s (operated t p) rev)
+
 module _ (number a b : ℕ) where
   -- AIN
   module _ (block : AinBlock) where
@@ -78,19 +96,11 @@ module _ (number a b : ℕ) where
     pub ain-in-steps : ain_written block number a b
         ≡ in_steps (ain_at (pair_of a b)) (ain_at (operator_after block.settings.target a block.state.out block.state.operator)) block
         ain_set ain_counted (number == 10) (number == 5) (is_static 1 number)
-    unfolding ain_written operator_by entered_by rev_after
+    unfolding ain_written operator_by entered_by
     ain-in-steps =
-        go (is_static 1 number)
-        ∙ steps ain_at ain_set ain_counted (pair_of a b)
-        (operator_after block.settings.target a block.state.out block.state.operator) block.state.operator (number == 10) (number == 5) (is_static 1 number)
-      where
-        pair : Pair
-        pair = operator_by pair_of 10 number a b block.settings.target block.state.out block.state.operator
-
-        go : (static : Bool) → ain_with block (ain_settings block.settings number a b) (operated_ain block.state pair) (rev_after static block.st_rev)
-            ≡ cond static (ain_counted (ain_set (ain_at pair))) (ain_set (ain_at pair))
-        go true = refl
-        go false = refl
+        written-in-steps (ain_with block) (λ s. ain_settings s number a b) operated_ain ain_set ain_counted (λ s t rev. refl) (λ s t rev. refl)
+        block.settings block.state block.st_rev (pair_of a b) (operator_after block.settings.target a block.state.out block.state.operator)
+        block.state.operator (number == 10) (number == 5) (is_static 1 number)
 
   -- AO
   module _ (block : AoBlock) where
@@ -106,19 +116,11 @@ module _ (number a b : ℕ) where
     pub ao-in-steps : ao_written block number a b
         ≡ in_steps (ao_at (pair_of a b)) (ao_at (operator_after block.settings.target a block.state.out block.state.operator)) block
         ao_set ao_counted (number == 37) (number == 5) (is_static 3 number)
-    unfolding ao_written operator_by entered_by operator_after operated_ao rev_after
+    unfolding ao_written operator_by entered_by operator_after operated_ao
     ao-in-steps =
-        go (is_static 3 number)
-        ∙ steps ao_at ao_set ao_counted (pair_of a b)
-        (operator_after block.settings.target a block.state.out block.state.operator) block.state.operator (number == 37) (number == 5) (is_static 3 number)
-      where
-        pair : Pair
-        pair = operator_by pair_of 37 number a b block.settings.target block.state.out block.state.operator
-
-        go : (static : Bool) → ao_with (ao_settings block.settings number a b) (operated_ao block.state pair) (rev_after static block.st_rev)
-            ≡ cond static (ao_counted (ao_set (ao_at pair))) (ao_set (ao_at pair))
-        go true = refl
-        go false = refl
+        written-in-steps ao_with (λ s. ao_settings s number a b) operated_ao ao_set ao_counted (λ s t rev. refl) (λ s t rev. refl)
+        block.settings block.state block.st_rev (pair_of a b) (operator_after block.settings.target a block.state.out block.state.operator)
+        block.state.operator (number == 37) (number == 5) (is_static 3 number)
 
   -- DI
   module _ (block : DiBlock) where
@@ -134,21 +136,13 @@ module _ (number a b : ℕ) where
     pub di-in-steps : di_written block number a b
         ≡ in_steps (di_at (discrete_pair a b)) (di_at (operator_after block.settings.target a block.state.out block.state.operator)) block
         di_set di_counted (number == 10) (number == 5) (is_static 4 number)
-    unfolding di_written operator_by entered_by rev_after
+    unfolding di_written operator_by entered_by
     di-in-steps =
-        go (is_static 4 number)
-        ∙ steps di_at di_set di_counted (discrete_pair a b)
-        (operator_after block.settings.target a block.state.out block.state.operator) block.state.operator (number == 10) (number == 5) (is_static 4 number)
-      where
-        pair : Discrete
-        pair = operator_by discrete_pair 10 number a b block.settings.target block.state.out block.state.operator
+        written-in-steps di_with (λ s. di_settings s number a) operated_di di_set di_counted (λ s t rev. refl) (λ s t rev. refl)
+        block.settings block.state block.st_rev (discrete_pair a b) (operator_after block.settings.target a block.state.out block.state.operator)
+        block.state.operator (number == 10) (number == 5) (is_static 4 number)
 
-        go : (static : Bool) → di_with (di_settings block.settings number a) (operated_di block.state pair) (rev_after static block.st_rev)
-            ≡ cond static (di_counted (di_set (di_at pair))) (di_set (di_at pair))
-        go true = refl
-        go false = refl
-
-  -- DOUT
+  -- DO
   module _ (block : DoutBlock) where
     abbrev dout_at : Discrete → DoutBlock
     dout_at pair = dout_with block.settings (operated_dout block.state pair) block.st_rev
@@ -162,19 +156,11 @@ module _ (number a b : ℕ) where
     pub dout-in-steps : dout_written block number a b
         ≡ in_steps (dout_at (discrete_pair a b)) (dout_at (operator_after block.settings.target a block.state.out block.state.operator)) block
         dout_set dout_counted (number == 10) (number == 5) (is_static 5 number)
-    unfolding dout_written operator_by entered_by operator_after operated_dout rev_after
+    unfolding dout_written operator_by entered_by operator_after operated_dout
     dout-in-steps =
-        go (is_static 5 number)
-        ∙ steps dout_at dout_set dout_counted (discrete_pair a b)
-        (operator_after block.settings.target a block.state.out block.state.operator) block.state.operator (number == 10) (number == 5) (is_static 5 number)
-      where
-        pair : Discrete
-        pair = operator_by discrete_pair 10 number a b block.settings.target block.state.out block.state.operator
-
-        go : (static : Bool) → dout_with (dout_settings block.settings number a) (operated_dout block.state pair) (rev_after static block.st_rev)
-            ≡ cond static (dout_counted (dout_set (dout_at pair))) (dout_set (dout_at pair))
-        go true = refl
-        go false = refl
+        written-in-steps dout_with (λ s. dout_settings s number a) operated_dout dout_set dout_counted (λ s t rev. refl) (λ s t rev. refl)
+        block.settings block.state block.st_rev (discrete_pair a b) (operator_after block.settings.target a block.state.out block.state.operator)
+        block.state.operator (number == 10) (number == 5) (is_static 5 number)
 
   -- TOT, whose operator's pair is a status alone: it takes none on entering Man
   module _ (block : TotBlock) where
@@ -187,43 +173,19 @@ module _ (number a b : ℕ) where
     pub tot-in-steps : tot_written block number a b
         ≡ in_steps (tot_with block.settings (written_state block.state a (b % 256)) block.st_rev) block block tot_set tot_counted (number == 10)
         (number == 5) (is_static 2 number)
-    unfolding tot_written rev_after
-    tot-in-steps = go (number == 10) (number == 5) (is_static 2 number)
+    unfolding tot_written
+    tot-in-steps =
+        untaken (number == 10) (number == 5)
+        ∙ written-in-steps tot_with (λ s. tot_settings s number a) (λ t new. new) tot_set tot_counted (λ s t rev. refl) (λ s t rev. refl)
+        block.settings block.state block.st_rev new block.state block.state (number == 10) (number == 5) (is_static 2 number)
       where
         new : TotState
         new = written_state block.state a (b % 256)
 
-        go : (output target static : Bool)
-            → tot_with (tot_settings block.settings number a) (cond output new block.state) (rev_after static block.st_rev)
-            ≡ in_steps (tot_with block.settings new block.st_rev) block block tot_set tot_counted output target static
-        go true target true = refl
-        go true target false = refl
-        go false true true = refl
-        go false true false = refl
-        go false false true = refl
-        go false false false = refl
+        made : TotState → TotBlock
+        made state = tot_with (tot_settings block.settings number a) state (rev_after (is_static 2 number) block.st_rev)
 
-pub ain-headed : (b : AinBlock) (number : ℕ)
-    → ain_words b number ≡ headed_words b.st_rev b.settings.target b.state.mode (ain_more b number) number
-unfolding ain_words
-ain-headed b number = refl
-
-pub tot-headed : (b : TotBlock) (number : ℕ)
-    → tot_words b number ≡ headed_words b.st_rev b.settings.target b.state.mode (tot_more b number) number
-unfolding tot_words
-tot-headed b number = refl
-
-pub ao-headed : (b : AoBlock) (number : ℕ)
-    → ao_words b number ≡ headed_words b.st_rev b.settings.target b.state.mode (ao_more b number) number
-unfolding ao_words
-ao-headed b number = refl
-
-pub di-headed : (b : DiBlock) (number : ℕ)
-    → di_words b number ≡ headed_words b.st_rev b.settings.target b.state.mode (di_more b number) number
-unfolding di_words
-di-headed b number = refl
-
-pub dout-headed : (b : DoutBlock) (number : ℕ)
-    → dout_words b number ≡ headed_words b.st_rev b.settings.target b.state.mode (dout_more b number) number
-unfolding dout_words
-dout-headed b number = refl
+        untaken : (output target : Bool) → made (cond output new block.state) ≡ made (cond output new (cond target block.state block.state))
+        untaken true target = refl
+        untaken false true = refl
+        untaken false false = refl

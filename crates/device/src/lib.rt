@@ -2,7 +2,7 @@
 // (document 01, Calls on the device; document 02, requests 1 to 3).
 #![tactic(auto)]
 
-ghost use Rattle.std.specs.Prelude.{◌≡◌, ◌==◌, ◌%◌, ℕ, true};
+ghost use Rattle.std.specs.Prelude.{◌≡◌, refl, ◌==◌, ◌%◌, ℕ, true};
 ghost use Rattle.wire.specs.Image.{image_answer, image_bytes, part_of, part_place};
 ghost use Rattle.blocks.specs.Common.{operator_after};
 ghost use Rattle.ain.specs.State.{operated_state as operated_ain};
@@ -21,13 +21,11 @@ ghost use Rattle.device.specs.Stored.{ain_settings, tot_settings, ao_settings, d
 ghost use Rattle.device.specs.Stored.{ain_written, tot_written, ao_written, di_written, dout_written, stored_in};
 ghost use Rattle.device.specs.Steps.{head_of, ain_with, tot_with, ao_with, di_with, dout_with, in_steps};
 ghost use Rattle.device.specs.Steps.{ain-in-steps, tot-in-steps, ao-in-steps, di-in-steps, dout-in-steps};
-ghost use Rattle.device.specs.Steps.{ain-headed, tot-headed, ao-headed, di-headed, dout-headed};
 ghost use Rattle.device.specs.Read.{headed_words, ain_more, tot_more, ao_more, di_more, dout_more};
-ghost use Rattle.device.specs.Read.{alarm_byte, ain_words, tot_words, ao_words, di_words, dout_words, words_of, read_of};
+ghost use Rattle.device.specs.Read.{ain_words, tot_words, ao_words, di_words, dout_words, words_of, read_of};
 ghost use Rattle.device.specs.Blocks.{ain_ticked, tot_ticked, ao_ticked, di_ticked, dout_ticked};
 ghost use Rattle.device.specs.Calls.{standing_of, write_of, tick_of, telegram_of, tabled_by, load_of, warm_started};
 
-use ain::Alarms;
 use blocks::setpoint::Order;
 use linearisation::Table;
 use numbers::floats::float_of;
@@ -85,6 +83,14 @@ pub struct Device {
     pub ao: AoBlock,
     pub di: DiBlock,
     pub dout: DoutBlock,
+}
+
+// What a tick is fed beside the fault flag: the transducers' pairs of AIN, TOT and DI.
+#[derive(Clone, Copy)]
+pub struct Fed {
+    pub ain: Pair,
+    pub tot: Pair,
+    pub di: Discrete,
 }
 
 // The drive orders of a tick.
@@ -229,7 +235,7 @@ struct Head {
 }
 
 // A block, as writes and reads know it: what all have alike is written once, and by two laws that is what the definitions
-// say of each block.
+// say of each block. What a block hands over of its own fields stands in each: C holds five structs, and a trait has no fields.
 trait Block {
     ghost NUMBER: { ℕ };
 
@@ -382,7 +388,7 @@ impl Block for AinBlock {
 
     fn more(&self, parameter: u8) -> Words {
         match parameter {
-            7 => Words::from(alarm_byte(self.state.alarms)),
+            7 => Words::from(u32::from(self.state.alarms.byte())),
             10 => Words::from(self.state.out),
             11 => Words::from(self.settings.pv_scale),
             12 => Words::from(self.settings.out_scale),
@@ -401,7 +407,7 @@ impl Block for AinBlock {
 
     ghost write_in_steps = { λ b number first second. ain-in-steps number first second b };
 
-    ghost reads_headed = { ain-headed };
+    ghost reads_headed = { λ b number. unfold ain_words in refl };
 }
 
 #[tactic(auto, unfolding(crate::specs::Stored::tot_settings, crate::specs::Stored::rev_after))]
@@ -472,7 +478,7 @@ impl Block for TotBlock {
 
     ghost write_in_steps = { λ b number first second. tot-in-steps number first second b };
 
-    ghost reads_headed = { tot-headed };
+    ghost reads_headed = { λ b number. unfold tot_words in refl };
 }
 
 #[tactic(auto, unfolding(crate::specs::Stored::ao_settings, crate::specs::Stored::rev_after))]
@@ -550,7 +556,7 @@ impl Block for AoBlock {
 
     ghost write_in_steps = { λ b number first second. ao-in-steps number first second b };
 
-    ghost reads_headed = { ao-headed };
+    ghost reads_headed = { λ b number. unfold ao_words in refl };
 }
 
 #[tactic(auto, unfolding(crate::specs::Stored::di_settings, crate::specs::Stored::rev_after, crate::specs::Read::discrete_words))]
@@ -622,7 +628,7 @@ impl Block for DiBlock {
 
     ghost write_in_steps = { λ b number first second. di-in-steps number first second b };
 
-    ghost reads_headed = { di-headed };
+    ghost reads_headed = { λ b number. unfold di_words in refl };
 }
 
 #[tactic(auto, unfolding(crate::specs::Stored::dout_settings, crate::specs::Stored::rev_after, crate::specs::Read::discrete_words))]
@@ -696,18 +702,7 @@ impl Block for DoutBlock {
 
     ghost write_in_steps = { λ b number first second. dout-in-steps number first second b };
 
-    ghost reads_headed = { dout-headed };
-}
-
-// An alarm byte: the bit of each alarm that stands.
-#[tactic(auto, unfolding(crate::specs::Read::alarm_byte))]
-fn alarm_byte(alarms: Alarms) -> u32
-    ensures { result ≡ alarm_byte alarms }
-{
-    u32::from(alarms.hi_hi)
-        + 2 * u32::from(alarms.hi)
-        + 4 * u32::from(alarms.lo)
-        + 8 * u32::from(alarms.lo_lo)
+    ghost reads_headed = { λ b number. unfold dout_words in refl };
 }
 
 // ---- writes and reads
@@ -744,14 +739,10 @@ impl Device {
     }
 
     #[tactic(auto, unfolding(crate::specs::Calls::write_of))]
-    pub fn write(&mut self, block: u8, parameter: u8, a: u32, b: u32) -> Result<(), Refusal>
-        ensures answer { result ≡ (write_of self.old block parameter a b).answer }
-        ensures device { self.new ≡ (write_of self.old block parameter a b).device }
+    pub fn write(&mut self, block: u8, parameter: u8, words: Words) -> Result<(), Refusal>
+        ensures answer { result ≡ (write_of self.old block parameter words.first words.second).answer }
+        ensures device { self.new ≡ (write_of self.old block parameter words.first words.second).device }
     {
-        let words = Words {
-            first: a,
-            second: b,
-        };
         self.standing().answer_to(block, parameter, words)?;
         self.store(block, parameter, words);
         Ok(())
@@ -835,14 +826,14 @@ impl DoutBlock {
 impl Device {
     // Block by block, each in its place.
     #[tactic(auto, unfolding(crate::specs::Calls::tick_of))]
-    pub fn tick(&mut self, fault: bool, ain: Pair, tot: Pair, di: Discrete) -> Orders
-        ensures ao { result.ao ≡ (tick_of self.old fault ain tot di).order }
-        ensures dout { result.dout ≡ (tick_of self.old fault ain tot di).order_d }
-        ensures device { self.new ≡ (tick_of self.old fault ain tot di).device }
+    pub fn tick(&mut self, fault: bool, fed: Fed) -> Orders
+        ensures ao { result.ao ≡ (tick_of self.old fault fed.ain fed.tot fed.di).order }
+        ensures dout { result.dout ≡ (tick_of self.old fault fed.ain fed.tot fed.di).order_d }
+        ensures device { self.new ≡ (tick_of self.old fault fed.ain fed.tot fed.di).device }
     {
-        self.ain.tick(fault, ain);
-        self.tot.tick(fault, tot);
-        self.di.tick(fault, di);
+        self.ain.tick(fault, fed.ain);
+        self.tot.tick(fault, fed.tot);
+        self.di.tick(fault, fed.di);
         Orders {
             ao: self.ao.tick(fault),
             dout: self.dout.tick(fault),

@@ -11,7 +11,7 @@ ghost use Rattle.di.specs.State.{fresh_state, operated_state, warm_started};
 use blocks::PairOf;
 use wire::Discrete;
 
-// The stored parameters.
+// The stored parameters; codes are numbers, as C holds them and as words are stored.
 #[repr(C)]
 #[derive(Clone, Copy)]
 pub struct Settings {

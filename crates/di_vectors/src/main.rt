@@ -23,6 +23,8 @@ fn auto(invert: u32, kind: u32, value: u32) -> Settings {
 }
 
 // A block with its parameters. Each step of it writes a line.
+// The other blocks' programs have such steps too, some 40 lines in each: one text for all would need a trait over the types of
+// settings, state and input, and each writes other values in its line.
 #[derive(Clone, Copy)]
 struct Block {
     settings: Settings,

@@ -4,7 +4,7 @@ use Rattle.std.proofs.Common.{subst}
 use Rattle.std.proofs.Math.Bool.{true, false}
 use Rattle.wire.specs.declared.Discrete.{Discrete as Pair}
 use Rattle.wire.specs.Bytes.{discrete_of}
-use Rattle.blocks.specs.Common.{rcas, actual_mode}
+use Rattle.blocks.specs.Common.{rcas, actual_mode, of_discrete}
 use Rattle.blocks.specs.Discrete.{is_discrete, inverted}
 use Rattle.blocks.specs.Laws.{Discrete, inverted-discrete, value-discrete, led-holds, given_holds, after-telegram-holds, telegram-holds}
 use Rattle.blocks.specs.FailSafe.{after_tick}
@@ -34,10 +34,10 @@ module _ (s : Settings) (state : State) (h : DiscreteStore state) where
       go true = h.rcas_in
       go false = h.sp
 
-  given : (mode : ℕ) → Discrete (given_in s state mode).value
+  given : (mode : ℕ) → Discrete (given_in s state mode).out.value
   unfolding given_in given_by_input given_by
   given mode =
-      given_holds Discrete mode state.out.value state.operator.value state.operator.status _ h.out h.operator
+      given_holds Discrete mode state.out.value (of_discrete state.operator) _ h.out h.operator
       (led-holds Discrete Discrete (out_of s.invert) state.out.value h.out led s.fsafe_time s.fsafe_type _
       (input_of (input_used state mode)) (value-discrete s.fsafe_val_d) (used mode))
 

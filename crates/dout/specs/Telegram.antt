@@ -3,6 +3,7 @@ use Rattle.std.specs.Prelude.{ℕ, Bool, cond, not, ◌||◌, List, eqb}
 use Rattle.wire.specs.declared.Discrete.{Discrete}
 use Rattle.wire.specs.Bytes.{discrete_of}
 use Rattle.blocks.specs.Discrete.{is_discrete}
+use Rattle.blocks.specs.InputBlock.{present}
 use Rattle.blocks.specs.FailSafe.{after_telegram}
 use Rattle.blocks.specs.Output.{TakenOf, telegram_by}
 use Rattle.dout.specs.declared.Input.{Input}
@@ -11,7 +12,7 @@ use Rattle.dout.specs.State.{input_of, input_from}
 
 -- Q3.4b, O1: an input after a telegram on it: another value than 0 or 1 stands where AO has one that isn't finite. INVERT has no part in what is kept
 unfoldable pub input_after : Input → Discrete → Input
-input_after input pair = input_from (after_telegram pair.status (is_discrete pair.value) pair.value (input_of input))
+input_after input pair = input_from (after_telegram pair.status (present (is_discrete pair.value) pair.value) (input_of input))
 
 -- Q3.7: input 2 is SP_D and 3 is RCAS_IN_D; the other input and the rest unchanged
 unfoldable pub taken_on : State → ℕ → Discrete → State

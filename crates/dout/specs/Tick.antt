@@ -1,6 +1,6 @@
 -- DO's tick, document 02, request 3, by document 01, AO tick and Mode (Q3.8a). Assumes nothing.
 use Rattle.std.specs.Prelude.{ℕ, Bool, cond, eqb, Option, Some}
-use Rattle.blocks.specs.Common.{rcas, actual_mode}
+use Rattle.blocks.specs.Common.{rcas, actual_mode, as_discrete, of_discrete}
 use Rattle.blocks.specs.Discrete.{inverted, discrete_value}
 use Rattle.blocks.specs.declared.setpoint.Case.{Case}
 use Rattle.blocks.specs.declared.setpoint.FailSafe.{FailSafe}
@@ -43,7 +43,7 @@ input_used state mode = cond (eqb mode rcas) state.rcas_in state.sp
 -- what a tick gives in its actual mode; INVERT has no part in Man
 unfoldable pub given_in : Settings → State → ℕ → Given ℕ
 given_in s state mode =
-    by_mode mode state.out.value state.operator.value state.operator.status (given_by_input s state.out.value (input_used state mode))
+    by_mode mode state.out.value (of_discrete state.operator) (given_by_input s state.out.value (input_used state mode))
 
 abbrev pub input_after_tick : Input → Input
 input_after_tick input = input_from (after_tick (input_of input))
@@ -54,7 +54,7 @@ ticked_with state mode g =
     record {
       state =
           record {
-            out = record { value = g.value; status = g.status };
+            out = as_discrete g.out;
             mode = mode;
             operator = state.operator;
             sp = input_after_tick state.sp;

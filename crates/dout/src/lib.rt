@@ -1,6 +1,6 @@
 // DO, the discrete output block (document 02, request 3, by document 01, AO tick): setpoint telegrams on two inputs,
-// fail-safe, INVERT, and the order that drives the sluice. What AO has too is in `blocks`, over the kind of value; here is
-// DO's own, and its structs, which C holds and which therefore are not generic.
+// fail-safe, INVERT, and the order that drives the sluice. What AO has too is in `blocks`, over the kind of value, but for
+// `Input` and the methods of `State`, which are as AO's: `ao` says why.
 #![tactic(auto)]
 
 ghost use Rattle.std.specs.Prelude.{◌≡◌};
@@ -12,7 +12,7 @@ use blocks::PairOf;
 use blocks::setpoint::{Drive, FailSafe, Given, Order, Setpoint};
 use wire::{Discrete, Refusal};
 
-// The stored parameters that the tick goes by.
+// The stored parameters that the tick goes by; codes are numbers, as C holds them and as words are stored.
 #[repr(C)]
 #[derive(Clone, Copy)]
 pub struct Settings {
@@ -78,7 +78,8 @@ impl Input {
         ensures { self.new ≡ input_after self.old pair }
     {
         let mut setpoint = Setpoint::from(*self);
-        setpoint.hear(pair.status, pair.value, blocks::is_discrete(pair.value));
+        let value = blocks::is_discrete(pair.value).then_some(pair.value);
+        setpoint.hear(pair.status, value);
         *self = Input::from(setpoint);
     }
 
@@ -198,10 +199,7 @@ impl State {
     {
         let mode = blocks::actual_mode(fault, settings.target);
         let given = self.given(settings, mode);
-        self.out = Discrete {
-            value: given.value,
-            status: given.status,
-        };
+        self.out = Discrete::from(given.out);
         self.mode = mode;
         self.sp.tick();
         self.rcas_in.tick();

@@ -9,6 +9,8 @@ use std::io;
 use wire::Discrete;
 
 // A block with its parameters. Each step of it writes a line, but for `ticks`.
+// The other blocks' programs have such steps too, some 40 lines in each: one text for all would need a trait over the types of
+// settings, state and input, and each writes other values in its line.
 #[derive(Clone, Copy)]
 struct Block {
     settings: Settings,
@@ -20,7 +22,7 @@ fn fresh(rt: &impl Print, title: &str) -> io::Result<Block> {
     println!(rt; "# {title}")?;
     Ok(Block {
         settings: Settings {
-            target: 0x08,
+            target: blocks::AUTO,
             invert: 0,
             fsafe_type: 0,
             fsafe_val_d: 0,
@@ -118,9 +120,9 @@ fn silence(rt: &impl Print) -> io::Result<()> {
     b.tick(rt)?;
     b.sp(rt, 0, 0x80)?;
     b.faulty_tick(rt)?;
-    b.settings.target = 0x10;
+    b.settings.target = blocks::MAN;
     b.tick(rt)?;
-    b.settings.target = 0x08;
+    b.settings.target = blocks::AUTO;
     b.tick(rt)?;
     b.tick(rt)
 }
@@ -174,21 +176,21 @@ fn both_inputs(rt: &impl Print) -> io::Result<()> {
     b.settings.fsafe_type = 1;
     b.settings.fsafe_time = 1;
     b.sp(rt, 1, 0x80)?;
-    b.settings.target = 0x02;
+    b.settings.target = blocks::RCAS;
     b.tick(rt)?;
     b.rcas_in(rt, 0, 0xc0)?;
     b.tick(rt)?;
-    b.settings.target = 0x08;
+    b.settings.target = blocks::AUTO;
     b.tick(rt)?;
     b.sp(rt, 1, 0x80)?;
-    b.settings.target = 0x02;
+    b.settings.target = blocks::RCAS;
     b.tick(rt)?;
     b.rcas_in(rt, 0, 0x80)?;
-    b.settings.target = 0x08;
+    b.settings.target = blocks::AUTO;
     b.tick(rt)?;
     b.tick(rt)?;
     b.sp(rt, 1, 0xa0)?;
-    b.settings.target = 0x02;
+    b.settings.target = blocks::RCAS;
     b.rcas_in(rt, 1, 0x80)?;
     b.tick(rt)
 }
@@ -251,15 +253,15 @@ fn operator(rt: &impl Print) -> io::Result<()> {
     b.settings.fsafe_val_d = 1;
     b.tick(rt)?;
     b.settings.invert = 1;
-    b.settings.target = 0x10;
+    b.settings.target = blocks::MAN;
     b.tick(rt)?;
     b.operated(rt, 1, 0x81)?;
     b.tick(rt)?;
     b.operated(rt, 0, 0xc3)?;
     b.tick(rt)?;
-    b.settings.target = 0x80;
+    b.settings.target = blocks::OUT_OF_SERVICE;
     b.tick(rt)?;
-    b.settings.target = 0x10;
+    b.settings.target = blocks::MAN;
     b.warm_start(rt)?;
     b.tick(rt)
 }
@@ -293,7 +295,7 @@ fn refused(rt: &impl Print) -> io::Result<()> {
     b.sent(rt, 2, &[1, 0x80, 0x80])?;
     b.sent(rt, 3, &[0, 0, 0, 1, 0x80])?;
     b.tick(rt)?;
-    b.settings.target = 0x02;
+    b.settings.target = blocks::RCAS;
     b.tick(rt)
 }
 

@@ -22,7 +22,8 @@ use Rattle.parameters.specs.Words.{allows_of}
 use Rattle.parameters.specs.Refused.{stored_class, stored_entry}
 use Rattle.parameters.specs.Laws.{by_rows, ◌also◌, shown, shown_by, shown-back}
 use Rattle.parameters.specs.Table as Table
-use Rattle.device.specs.Read.{Reading, bit, alarm_byte, ain_words, tot_words, ao_words, di_words, dout_words, discrete_words, words_of, read_of, read_by}
+use Rattle.ain.specs.Alarm.{bit, alarm_byte}
+use Rattle.device.specs.Read.{Reading, ain_words, tot_words, ao_words, di_words, dout_words, discrete_words, words_of, read_of, read_by}
 use Rattle.history.specs.Past.{History}
 use Rattle.history.specs.Calls.{Event, words}
 use Rattle.history.specs.Rules.{discrete, has, outputs, read_onlys, stored, stands, hi_hi, hi, lo, lo_lo, alarm_sum, given, reading, to_image}

@@ -14,8 +14,9 @@ use Rattle.wire.specs.declared.Discrete.{Discrete}
 use Rattle.wire.specs.Bytes.{pair_of, word_of, discrete_of}
 use Rattle.blocks.specs.Common as Common
 use Rattle.blocks.specs.declared.setpoint.Setpoint.{Setpoint as InputOf}
+use Rattle.blocks.specs.InputBlock.{present}
 use Rattle.blocks.specs.FailSafe.{usable, initiates, after_telegram, emptied}
-use Rattle.blocks.specs.Laws.{usable-means, initiates-means, usable-excludes}
+use Rattle.blocks.specs.Laws.{usable-means, initiates-means, usable-excludes, after-by-flag}
 use Rattle.ao.specs.declared.State.{State as AoState}
 use Rattle.ao.specs.State.{input_from, no_telegrams, started, warm_started as ao_warm_started}
 use Rattle.ao.specs.Telegram.{input_after, taken_on}
@@ -74,9 +75,9 @@ module _ {A : Type 0} (d : Drive A) (input : ℕ) (h : History Event) (e : Event
   no-ifs : u ≡ true → ifs d input (h ▷ e) ≡ false
   no-ifs eu = rw (eu, usable-excludes p.status (d.fine p.bits) eu) at ifs-then ∙ and-false (ifs d input h)
 
-  pub input-heard : input_at d input (h ▷ e) ≡ after_telegram p.status (d.fine p.bits) (d.value p.bits) (input_at d input h)
-  unfolding input_at after_telegram
-  input-heard = go u refl f refl
+  pub input-heard : input_at d input (h ▷ e) ≡ after_telegram p.status (present (d.fine p.bits) (d.value p.bits)) (input_at d input h)
+  unfolding input_at
+  input-heard = go u refl f refl ∙ sym (after-by-flag p.status (d.fine p.bits) (d.value p.bits) (input_at d input h))
     where
       old : InputOf A
       old = input_at d input h
@@ -109,7 +110,7 @@ module _ (h : History Event) (input : ℕ) (bytes : List ℕ) where
 
   -- the input that it came on, and any other
   module _ {A : Type 0} (d : Drive A) (i : ℕ) where
-    taken : (p : Pair) → eqb input i ≡ true → d.received bytes ≡ Some p → after_telegram p.status (d.fine p.bits) (d.value p.bits) (input_at d i h) ≡ input_at d i then
+    taken : (p : Pair) → eqb input i ≡ true → d.received bytes ≡ Some p → after_telegram p.status (present (d.fine p.bits) (d.value p.bits)) (input_at d i h) ≡ input_at d i then
     taken p e r = sym (input-heard d i h (telegram input bytes) p (rw e r) refl refl)
 
     other : eqb input i ≡ false → input_at d i h ≡ input_at d i then

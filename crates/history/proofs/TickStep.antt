@@ -13,14 +13,15 @@ use lib.Ieee.Scale.{finite}
 use Rattle.numbers.specs.Floats.{float_of, bits_of}
 use Rattle.scaling.specs.Scaling.{fraction_of, at_fraction}
 use Rattle.linearisation.specs.Table.{table_of}
-use Rattle.blocks.specs.Common.{actual_mode}
+use Rattle.blocks.specs.Common.{actual_mode, as_pair, of_pair}
+use Rattle.blocks.specs.InputBlock.{present}
 use Rattle.ain.specs.declared.State.{State as AinState}
 use Rattle.ain.specs.Alarm.{rises, falls, alarm_stands, alarms_of, no_alarms}
 use Rattle.ain.specs.Tick as Ain
 use Rattle.ain.specs.Laws.{good-exactly}
 use Rattle.tot.specs.Tick as Tot
 use Rattle.ao.specs.State.{input_from}
-use Rattle.blocks.specs.declared.setpoint.Case.TheVariants.{Following, Fallback, Held, NothingHeld, Safety}
+use Rattle.blocks.specs.declared.setpoint.Case.TheVariants.{Following, Fallback, Held, Safety}
 use Rattle.blocks.specs.declared.setpoint.Order.{Order}
 use Rattle.blocks.specs.declared.setpoint.Given.{Given as GivenOf}
 use Rattle.blocks.specs.FailSafe.{scaled_or, leads_to, by_mode, case_of, fail_safe_acts, fail_safe_case, silence_after, after_tick}
@@ -163,7 +164,7 @@ moved Order.Safe = Rules.safe
 moved Order.Rest = Rules.rest
 
 abbrev shown : GivenOf ℕ → Given
-shown g = record { out = pair g.value g.status; move = moved g.order }
+shown g = record { out = as_pair g.out; move = moved g.order }
 
 -- the decision by the count that stops is that by n
 acts-same : (came : Bool) (n : ℕ) (ifs : Bool) (time : ℕ) → time ≤ 65535 → fail_safe_acts came (cond came (min n 65536) 0) ifs time ≡ fail_safe_acts came n ifs time
@@ -192,7 +193,7 @@ module _ {A : Type 0} (d : Drive A) (h : History Event) where
     m = mode_at h fault B
 
     abbrev all : GivenOf ℕ
-    all = by_mode m (given B h).bits (operator B h).bits (operator B h).status (led_by (given B h).bits (cond (eqb m rcas) d.rcas_in d.sp))
+    all = by_mode m (given B h).bits (of_pair (operator B h)) (led_by (given B h).bits (cond (eqb m rcas) d.rcas_in d.sp))
 
     -- by the rules: O/S holds the pair, at Rest
     abbrev by-rules : Given
@@ -206,7 +207,7 @@ module _ {A : Type 0} (d : Drive A) (h : History Event) where
         ∙ go (is_fail_safe d input h) (eqb (code h B d.kind) 0) (eqb (code h B d.kind) 1) (came d input h)
       where
         led : (f a b c : Bool) → Given
-        led f a b c = shown (leads_to (d.worked h) (old_out B h) (cond f (cond a (Fallback (d.fallback h)) (cond b (cond c (Held (setpoint d input h)) NothingHeld) Safety)) (Following (setpoint d input h))))
+        led f a b c = shown (leads_to (d.worked h) (old_out B h) (cond f (cond a (Fallback (d.fallback h)) (cond b (Held (present c (setpoint d input h))) Safety)) (Following (setpoint d input h))))
 
         go : (f a b c : Bool) → led f a b c ≡ cond f (cond a (working d h (d.fallback h) 0x48) (cond b (cond c (working d h (setpoint d input h) 0x44) (positioned (old_out B h) 0x4c)) (record { out = pair (old_out B h) 0x00; move = Rules.safe }))) (working d h (setpoint d input h) 0x80)
         go false a b c = working-is (setpoint d input h) 0x80
@@ -230,7 +231,7 @@ module _ {A : Type 0} (d : Drive A) (h : History Event) where
           go (inr e) = rw e (by_old d.rcas_in)
 
       -- the pair, and the order
-      pub out-is : IsAoMode (m fault) → pair (all fault).value (all fault).status ≡ cond (eqb (m fault) out_of_service) (Rules.held (given B h)) (drives d h fault).out
+      pub out-is : IsAoMode (m fault) → as_pair (all fault).out ≡ cond (eqb (m fault) out_of_service) (Rules.held (given B h)) (drives d h fault).out
       out-is is-mode = ap (λ (g : Given). g.out) (given_is is-mode) ∙ cond-ap (λ (g : Given). g.out) (eqb (m fault) out_of_service) _ _
 
       pub move-is : IsAoMode (m fault) → moved (all fault).order ≡ driven d h fault
@@ -256,12 +257,12 @@ module _ (h : History Event) where
   -- what AO's tick gives, in the rules' terms
   ao-all : (fault : Bool) → Ao.given_in (ao_at h) (ao_in h) (mode_at h fault 3) ≡ all analog_out h fault
   unfolding Ao.given_in Ao.given_by_input Ao.given_by Ao.input_used ao_in ao_at
-  ao-all fault = (λ i. by_mode (mode_at h fault 3) (given 3 h).bits (operator 3 h).bits (operator 3 h).status
+  ao-all fault = (λ i. by_mode (mode_at h fault 3) (given 3 h).bits (of_pair (operator 3 h))
       (leads_to (λ w. ao-worked w i) (given 3 h).bits (Ao.case_by (ao_at h) (cond (eqb (mode_at h fault 3) rcas) (ao_input 1 h) (ao_input 0 h)))))
       ∙ go (eqb (mode_at h fault 3) rcas)
     where
-      go : (r : Bool) → by_mode (mode_at h fault 3) (given 3 h).bits (operator 3 h).bits (operator 3 h).status (leads_to (ao_worked h) (given 3 h).bits (Ao.case_by (ao_at h) (cond r (ao_input 1 h) (ao_input 0 h))))
-          ≡ by_mode (mode_at h fault 3) (given 3 h).bits (operator 3 h).bits (operator 3 h).status (led_by analog_out h (given 3 h).bits (cond r 1 0))
+      go : (r : Bool) → by_mode (mode_at h fault 3) (given 3 h).bits (of_pair (operator 3 h)) (leads_to (ao_worked h) (given 3 h).bits (Ao.case_by (ao_at h) (cond r (ao_input 1 h) (ao_input 0 h))))
+          ≡ by_mode (mode_at h fault 3) (given 3 h).bits (of_pair (operator 3 h)) (led_by analog_out h (given 3 h).bits (cond r 1 0))
       go true = refl
       go false = refl
 
@@ -275,12 +276,12 @@ order_same Order.Rest = refl
 
 dout-all : (h : History Event) → code h 5 21 ≤ 1 → (fault : Bool) → Dout.given_in (dout_at h) (dout_in h) (mode_at h fault 5) ≡ all discrete_out h fault
 unfolding Dout.given_in Dout.given_by_input Dout.given_by Dout.input_used dout_in dout_at inverted
-dout-all h small fault = (λ i. by_mode (mode_at h fault 5) (given 5 h).bits (operator 5 h).bits (operator 5 h).status
+dout-all h small fault = (λ i. by_mode (mode_at h fault 5) (given 5 h).bits (of_pair (operator 5 h))
     (leads_to (discrete_out.worked h) (given 5 h).bits (case_of (code h 5 22) (code h 5 20) (value-is (code h 5 21) small i) (DoutState.input_of (cond (eqb (mode_at h fault 5) rcas) (dout_input 3 h) (dout_input 2 h))))))
     ∙ go (eqb (mode_at h fault 5) rcas)
   where
-    go : (r : Bool) → by_mode (mode_at h fault 5) (given 5 h).bits (operator 5 h).bits (operator 5 h).status (leads_to (discrete_out.worked h) (given 5 h).bits (case_of (code h 5 22) (code h 5 20) (code h 5 21) (DoutState.input_of (cond r (dout_input 3 h) (dout_input 2 h)))))
-        ≡ by_mode (mode_at h fault 5) (given 5 h).bits (operator 5 h).bits (operator 5 h).status (led_by discrete_out h (given 5 h).bits (cond r 3 2))
+    go : (r : Bool) → by_mode (mode_at h fault 5) (given 5 h).bits (of_pair (operator 5 h)) (leads_to (discrete_out.worked h) (given 5 h).bits (case_of (code h 5 22) (code h 5 20) (code h 5 21) (DoutState.input_of (cond r (dout_input 3 h) (dout_input 2 h)))))
+        ≡ by_mode (mode_at h fault 5) (given 5 h).bits (of_pair (operator 5 h)) (led_by discrete_out h (given 5 h).bits (cond r 3 2))
     go true = refl
     go false = refl
 
@@ -318,7 +319,7 @@ module _ (h : History Event) (S : Sound h) (fault : Bool) (fed : Fed) (old : (B 
 
     pub ao-given : next.ao.state.out ≡ given 3 after
     unfolding tick_of device_of Ao.tick_of Ao.ticked_with actual_mode mode_at ao_at given carried
-    ao-given = ap (λ (g : GivenOf ℕ). pair g.value g.status) (ao-all h fault) ∙ out-is analog_out h (time-small h S) fault ao_old (ao-mode-at h S fault)
+    ao-given = ap (λ (g : GivenOf ℕ). as_pair g.out) (ao-all h fault) ∙ out-is analog_out h (time-small h S) fault ao_old (ao-mode-at h S fault)
 
     pub order_is : (ticked_by (device_of h) fault fed).order ≡ order h fault
     unfolding tick_of device_of Ao.tick_of Ao.ticked_with actual_mode mode_at ao_at order
@@ -331,7 +332,7 @@ module _ (h : History Event) (S : Sound h) (fault : Bool) (fed : Fed) (old : (B 
 
     pub dout-given : next.dout.state.out ≡ discrete (given 5 after)
     unfolding tick_of device_of Dout.tick_of Dout.ticked_with actual_mode mode_at dout_at given carried
-    dout-given = ap (λ (g : GivenOf ℕ). discrete (pair g.value g.status)) (dout-all h (sluice-small h S) fault) ∙ ap discrete (out-is discrete_out h (time-d-small h S) fault dout_old (dout-mode h S fault))
+    dout-given = ap (λ (g : GivenOf ℕ). discrete (as_pair g.out)) (dout-all h (sluice-small h S) fault) ∙ ap discrete (out-is discrete_out h (time-d-small h S) fault dout_old (dout-mode h S fault))
 
     pub order-d-is : (ticked_by (device_of h) fault fed).order_d ≡ order_d h fault
     unfolding tick_of device_of Dout.tick_of Dout.ticked_with actual_mode mode_at dout_at order_d

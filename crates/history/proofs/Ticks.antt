@@ -348,42 +348,30 @@ module _ (h : History Event) (tot : Pair) where
       go None = refl
       go (Some bad) = refl
 
-  kept-adds : (rate : Option Float) → Tot.adds (code h 2 14) (kept_of rate) ≡ adds h rate
-  unfolding Tot.adds wanted wanted_by
-  kept-adds None = refl
-  kept-adds (Some x) = refl
+  kept-rate : (o : Option Float) → Tot.kept_rate (kept_of o) ≡ o
+  kept-rate None = refl
+  kept-rate (Some x) = refl
+
+  same-adds : (rate : Option Float) → Tot.adds (code h 2 14) rate ≡ adds h rate
+  unfolding wanted wanted_by
+  same-adds None = refl
+  same-adds (Some x) = refl
 
   adds-is : Tot.tick_adds (code h 2 14) (code h 2 15) (kept_of (rate_value h)) tot.bits tot.status ≡ adds h (added_rate h tot (tot_bad tot))
   unfolding Tot.tick_adds Tot.fail_rate
-  adds-is = ap (λ (i : InputStatus). Tot.adds (code h 2 14) (Tot.added_rate (code h 2 15) (kept_of (rate_value h)) (float_of tot.bits) i)) tot-input ∙ go (tot_bad tot)
+  adds-is = rw (kept-rate (rate_value h), tot-input) (go (tot_bad tot))
     where
-      fail : (run hold fine : Bool) → cond run (cond fine (Common.kept (float_of tot.bits)) Common.none) (cond hold Common.none (kept_of (rate_value h))) ≡ kept_of (cond run (cond fine (Some (float_of tot.bits)) None) (cond hold None (rate_value h)))
-      fail true hold true = refl
-      fail true hold false = refl
-      fail false true fine = refl
-      fail false false fine = refl
-
-      go : (bad : Option ℕ) → Tot.adds (code h 2 14) (Tot.added_rate (code h 2 15) (kept_of (rate_value h)) (float_of tot.bits) (input_from bad)) ≡ adds h (added_rate h tot bad)
-      go None = kept-adds (Some (float_of tot.bits))
-      go (Some bad) = ap (Tot.adds (code h 2 14)) (fail (eqb (code h 2 15) 0) (eqb (code h 2 15) 1) (finite (float_of tot.bits))) ∙ kept-adds (added_rate h tot (Some bad))
+      go : (bad : Option ℕ) → Tot.adds (code h 2 14) (Tot.added_rate (code h 2 15) (rate_value h) (float_of tot.bits) (input_from bad)) ≡ adds h (added_rate h tot bad)
+      go None = same-adds (Some (float_of tot.bits))
+      go (Some bad) = same-adds (added_rate h tot (Some bad))
 
   tot-status : Tot.tick_status (code h 2 13) (code h 2 15) (kept_of (rate_value h)) tot.bits tot.status ≡ tot_status h tot.status (tot_bad tot)
   unfolding Tot.tick_status Tot.fail_status
-  tot-status = ap (Tot.auto_status (code h 2 13) (code h 2 15) (kept_of (rate_value h)) tot.status) tot-input ∙ go (tot_bad tot)
+  tot-status = rw (kept-rate (rate_value h), tot-input) (go (tot_bad tot))
     where
-      memory : Option Float → ℕ
-      memory None = 0x4c
-      memory (Some rate) = 0x44
-
-      by : (bad : ℕ) (run hold : Bool) (o : Option Float) → cond run bad (cond hold 0x40 (cond (kept_of o).some 0x44 0x4c)) ≡ cond run bad (cond hold 0x40 (memory o))
-      by bad true hold o = refl
-      by bad false true o = refl
-      by bad false false None = refl
-      by bad false false (Some x) = refl
-
-      go : (bad : Option ℕ) → Tot.auto_status (code h 2 13) (code h 2 15) (kept_of (rate_value h)) tot.status (input_from bad) ≡ tot_status h tot.status bad
+      go : (bad : Option ℕ) → Tot.auto_status (code h 2 13) (code h 2 15) (rate_value h) tot.status (input_from bad) ≡ tot_status h tot.status bad
       go None = refl
-      go (Some bad) = by bad (not (eqb (code h 2 13) 0) || eqb (code h 2 15) 0) (eqb (code h 2 15) 1) (rate_value h)
+      go (Some bad) = refl
 
   -- SET_TOT is 0, 1 or 2
   set_cases : (n : ℕ) → n ≤ 2 → (n ≡ 0) ⊎ ((n ≡ 1) ⊎ (n ≡ 2))

@@ -95,8 +95,8 @@ next_call s = then_read (next_byte s) arguments
 -- a call of the code, without where its bytes lie
 abbrev pub called : CodeCall → Call
 called WarmStart = Call.warm_start
-called (Tick fault ain tot di) = Call.tick fault (record { ain = ain; tot = tot; di = di })
-called (Write block number a b) = Call.write block number a b
+called (Tick fault fed) = Call.tick fault (record { ain = fed.ain; tot = fed.tot; di = fed.di })
+called (Write block number w) = Call.write block number w.first w.second
 called (Telegram input bytes) = Call.telegram input bytes.now
 called (Load bytes) = Call.load bytes.now
 

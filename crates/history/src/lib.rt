@@ -15,7 +15,7 @@ ghost use Rattle.history.specs.Calls.{after, reached};
 ghost use Rattle.history.specs.Rules as Rules;
 
 use blocks::setpoint::Order;
-use device::Device;
+use device::{Device, Fed};
 use parameters::Words;
 use wire::{Discrete, Pair, Refusal};
 
@@ -23,8 +23,8 @@ use wire::{Discrete, Pair, Refusal};
 #[derive(Clone, Copy)]
 enum Call<'a> {
     WarmStart,
-    Tick(bool, Pair, Pair, Discrete),
-    Write(u8, u8, u32, u32),
+    Tick(bool, Fed),
+    Write(u8, u8, Words),
     Telegram(u8, &'a [u8]),
     Load(&'a [u8]),
 }
@@ -37,11 +37,11 @@ impl Call<'_> {
     {
         match self {
             Call::WarmStart => device.warm_start(),
-            Call::Tick(fault, ain, tot, di) => {
-                device.tick(fault, ain, tot, di);
+            Call::Tick(fault, fed) => {
+                device.tick(fault, fed);
             }
-            Call::Write(block, parameter, a, b) => {
-                let _ = device.write(block, parameter, a, b);
+            Call::Write(block, parameter, words) => {
+                let _ = device.write(block, parameter, words);
             }
             Call::Telegram(input, bytes) => {
                 let _ = device.telegram(input, bytes);
@@ -125,10 +125,12 @@ impl<'a> Reader<'a> {
         if fault > 1 {
             return None;
         }
-        let ain = self.pair()?;
-        let tot = self.pair()?;
-        let di = self.discrete()?;
-        Some(Call::Tick(fault == 1, ain, tot, di))
+        let fed = Fed {
+            ain: self.pair()?,
+            tot: self.pair()?,
+            di: self.discrete()?,
+        };
+        Some(Call::Tick(fault == 1, fed))
     }
 
     #[tactic(auto, unfolding(crate::specs::Encoded::next_write))]
@@ -137,9 +139,11 @@ impl<'a> Reader<'a> {
     {
         let block = self.byte()?;
         let parameter = self.byte()?;
-        let a = self.word()?;
-        let b = self.word()?;
-        Some(Call::Write(block, parameter, a, b))
+        let words = Words {
+            first: self.word()?,
+            second: self.word()?,
+        };
+        Some(Call::Write(block, parameter, words))
     }
 
     #[tactic(auto, unfolding(crate::specs::Encoded::next_telegram))]
@@ -209,27 +213,27 @@ pub fn total_after(calls: &[u8]) -> i64
 
 // The drive orders of a tick, AO's and DO's.
 #[tactic(auto, using(crate::proofs::After::drive_is))]
-pub fn order_after(calls: &[u8], fault: bool, ain: Pair, tot: Pair, di: Discrete) -> Order<f32>
+pub fn order_after(calls: &[u8], fault: bool, fed: Fed) -> Order<f32>
     ensures { result ≡ Rules.order (heard calls.now) fault }
 {
     let mut device = device_after(calls);
-    device.tick(fault, ain, tot, di).ao
+    device.tick(fault, fed).ao
 }
 
 #[tactic(auto, using(crate::proofs::After::drive_d_is))]
-pub fn order_d_after(calls: &[u8], fault: bool, ain: Pair, tot: Pair, di: Discrete) -> Order<u8>
+pub fn order_d_after(calls: &[u8], fault: bool, fed: Fed) -> Order<u8>
     ensures { result ≡ Rules.order_d (heard calls.now) fault }
 {
     let mut device = device_after(calls);
-    device.tick(fault, ain, tot, di).dout
+    device.tick(fault, fed).dout
 }
 
 #[tactic(auto, using(crate::proofs::After::write_is))]
-pub fn write_after(calls: &[u8], block: u8, parameter: u8, a: u32, b: u32) -> Result<(), Refusal>
-    ensures { result ≡ Rules.to_write (heard calls.now) block parameter a b }
+pub fn write_after(calls: &[u8], block: u8, parameter: u8, words: Words) -> Result<(), Refusal>
+    ensures { result ≡ Rules.to_write (heard calls.now) block parameter words.first words.second }
 {
     let mut device = device_after(calls);
-    device.write(block, parameter, a, b)
+    device.write(block, parameter, words)
 }
 
 #[tactic(auto, using(crate::proofs::After::telegram_is))]

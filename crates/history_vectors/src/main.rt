@@ -5,8 +5,9 @@
 #![tactic(auto)]
 
 use blocks::setpoint::Order;
-use device::Device;
+use device::{Device, Fed};
 use numbers::floats::bits_of;
+use parameters::Words;
 use std::alloc::AllocError;
 use std::io;
 use wire::{Discrete, Pair, Refusal};
@@ -16,8 +17,8 @@ use wire::{Discrete, Pair, Refusal};
 #[derive(Clone, Copy)]
 enum Call<'a> {
     WarmStart,
-    // A fault byte, and the pairs of AIN, TOT and DI.
-    Tick(u8, Pair, Pair, Discrete),
+    // A fault byte, and what the tick is fed.
+    Tick(u8, Fed),
     Write(u8, u8, u32, u32),
     // An input, and bytes behind what is said to be their length; a load likewise.
     Telegram(u8, u64, &'a [u8]),
@@ -36,17 +37,43 @@ fn contact(value: u8, status: u8) -> Discrete {
     Discrete { value, status }
 }
 
+// What a tick is fed: 0 of all, Good.
+fn zeros() -> Fed {
+    Fed {
+        ain: good(0),
+        tot: good(0),
+        di: contact(0, 0x80),
+    }
+}
+
 // Ticks without a fault, with a Good value of AIN, rate of TOT and a pair of DI, the others 0 and Good.
 fn tick(bits: u32) -> Call<'static> {
-    Tick(0, good(bits), good(0), contact(0, 0x80))
+    Tick(0, fed_ain(bits))
 }
 
 fn tick_rate(bits: u32) -> Call<'static> {
-    Tick(0, good(0), good(bits), contact(0, 0x80))
+    Tick(0, fed_rate(good(bits)))
 }
 
 fn tick_contact(value: u8, status: u8) -> Call<'static> {
-    Tick(0, good(0), good(0), contact(value, status))
+    Tick(
+        0,
+        Fed {
+            di: contact(value, status),
+            ..zeros()
+        },
+    )
+}
+
+fn fed_ain(bits: u32) -> Fed {
+    Fed {
+        ain: good(bits),
+        ..zeros()
+    }
+}
+
+fn fed_rate(tot: Pair) -> Fed {
+    Fed { tot, ..zeros() }
 }
 
 fn telegram(input: u8, bytes: &[u8]) -> Call<'_> {
@@ -71,11 +98,11 @@ const SP_50: Call<'static> = Telegram(0, 5, b"\x42\x48\x00\x00\x80");
 fn put(list: &mut Vec<u8>, call: Call<'_>) -> Result<(), AllocError> {
     match call {
         WarmStart => list.extend_from_slice(&[0]),
-        Tick(fault, ain, tot, di) => {
+        Tick(fault, fed) => {
             list.extend_from_slice(&[1, fault])?;
-            list.extend_from_slice(&ain.to_bytes())?;
-            list.extend_from_slice(&tot.to_bytes())?;
-            list.extend_from_slice(&di.to_bytes())
+            list.extend_from_slice(&fed.ain.to_bytes())?;
+            list.extend_from_slice(&fed.tot.to_bytes())?;
+            list.extend_from_slice(&fed.di.to_bytes())
         }
         Write(block, parameter, a, b) => {
             list.extend_from_slice(&[2, block, parameter])?;
@@ -349,7 +376,7 @@ fn man_entered(rt: &HostRuntime) -> io::Result<()> {
 fn man_entered_held(rt: &HostRuntime) -> io::Result<()> {
     let calls = [
         tick(0x4248_0000),
-        Tick(1, good(0x41c8_0000), good(0), contact(0, 0x80)),
+        Tick(1, fed_ain(0x41c8_0000)),
         Write(1, 5, 0x10, 0),
         tick(0x41c8_0000),
         WarmStart,
@@ -527,7 +554,7 @@ fn total_kept(rt: &HostRuntime) -> io::Result<()> {
         Write(2, 15, 2, 0),
         tick_rate(0x4120_0000),
         WarmStart,
-        Tick(0, good(0), bad, contact(0, 0x80)),
+        Tick(0, fed_rate(bad)),
     ];
     list(
         rt,
@@ -607,7 +634,13 @@ fn faulty(rt: &HostRuntime) -> io::Result<()> {
         "a tick with a fault",
         &[
             tick(0x4248_0000),
-            Tick(1, good(0x41c8_0000), good(0x4120_0000), contact(0, 0x80)),
+            Tick(
+                1,
+                Fed {
+                    tot: good(0x4120_0000),
+                    ..fed_ain(0x41c8_0000)
+                },
+            ),
         ],
         &[
             (1, 6, 0x80, 0),
@@ -739,7 +772,7 @@ fn numbered(
 // Whether the next tick orders AO to 50.
 fn orders_50(rt: &HostRuntime, name: &str, calls: &[Call<'_>]) -> io::Result<()> {
     let list = list_of(rt, calls)?;
-    let order = history::order_after(list.as_slice(), false, good(0), good(0), contact(0, 0x80));
+    let order = history::order_after(list.as_slice(), false, zeros());
     passes(
         rt,
         name,
@@ -752,12 +785,16 @@ fn order_after(rt: &HostRuntime) -> io::Result<()> {
     let calls = [SP_50, telegram(2, b"\x01\x80")];
     orders_50(rt, "a tick's order after a telegram", &calls[..1])?;
     let list = list_of(rt, &calls)?;
-    let order = history::order_d_after(list.as_slice(), false, good(0), good(0), contact(0, 0x80));
+    let order = history::order_d_after(list.as_slice(), false, zeros());
     passes(
         rt,
         "DO's order after a telegram of two bytes",
         matches!(order, Order::Position(1)),
     )
+}
+
+fn words(first: u32, second: u32) -> Words {
+    Words { first, second }
 }
 
 // Ground 6 fresh, and none once the target is Man. Four bytes are 7. OUT_D 2 is 5, before 6; block 6 is 1. Input 4 is 8, and three
@@ -782,16 +819,16 @@ fn answers_after(rt: &HostRuntime) -> io::Result<()> {
             0,
         ),
     ] {
-        let answer = history::write_after(list, block, parameter, a, 0x80);
+        let answer = history::write_after(list, block, parameter, words(a, 0x80));
         numbered(rt, name, answer, number)?;
     }
     let four = history::telegram_after(man.as_slice(), 1, b"\x42\x48\x00\x00");
     numbered(rt, "a telegram of 4 bytes after a list", four, 7)?;
-    let two = history::write_after(b"", 4, 10, 2, 0x80);
+    let two = history::write_after(b"", 4, 10, words(2, 0x80));
     numbered(rt, "a write of OUT_D 2, target Auto", two, 5)?;
-    let one = history::write_after(b"", 5, 10, 1, 0x80);
+    let one = history::write_after(b"", 5, 10, words(1, 0x80));
     numbered(rt, "a write of OUT_D 1, target Auto", one, 6)?;
-    let six = history::write_after(b"", 6, 1, 0, 0);
+    let six = history::write_after(b"", 6, 1, words(0, 0));
     numbered(rt, "a write to block 6", six, 1)?;
     let input = history::telegram_after(b"", 4, b"\x01\x80");
     numbered(rt, "a telegram on input 4 after a list", input, 8)?;
@@ -905,7 +942,7 @@ fn no_such_kind(rt: &HostRuntime) -> io::Result<()> {
 }
 
 fn ticks_malformed(rt: &HostRuntime) -> io::Result<()> {
-    let two = Tick(2, good(0x4248_0000), good(0), contact(0, 0x80));
+    let two = Tick(2, fed_ain(0x4248_0000));
     malformed(rt, "malformed, a tick with fault 2", &[two], 0)?;
     let calls = [tick(0x4248_0000)];
     malformed(rt, "malformed, a tick of 13 bytes", &calls, 1)?;

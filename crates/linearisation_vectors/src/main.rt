@@ -19,10 +19,8 @@ fn put_word(bytes: &mut [u8], at: usize, bits: u32) {
 // Up to 23 pairs, as there is room: x is 1, 2, .. subnormal steps, y 256 times as many.
 fn rising<const N: usize>() -> [u8; N] {
     let mut bytes = [0u8; N];
-    for i in 0..23 {
-        let at = 8 * i as usize;
-        put_word(&mut bytes, at, i + 1);
-        put_word(&mut bytes, at + 4, 256 * i + 256);
+    for (pair, i) in bytes.chunks_exact_mut(8).zip(1..24) {
+        let _ = wire::put(pair, 0, [0, 0, 0, i, 0, 0, i, 0]);
     }
     bytes
 }
@@ -30,8 +28,8 @@ fn rising<const N: usize>() -> [u8; N] {
 // x and y of one pair, then of another.
 fn two_pairs(words: [u32; 4]) -> Result<Table, Refusal> {
     let mut bytes = [0u8; 16];
-    for (i, word) in words.iter().enumerate() {
-        put_word(&mut bytes, 4 * i, *word);
+    for (place, word) in bytes.chunks_exact_mut(4).zip(words) {
+        put_word(place, 0, word);
     }
     Table::try_from(bytes.as_slice())
 }

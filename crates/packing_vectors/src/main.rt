@@ -3,8 +3,9 @@
 // turned round, a total or a NaN with other bits, a byte written after the 564, and bytes unpacked that are no device.
 #![tactic(auto)]
 
-use device::Device;
+use device::{Device, Fed};
 use linearisation::Point;
+use parameters::Words;
 use std::io;
 use wire::{Discrete, Pair, Refusal};
 
@@ -76,7 +77,7 @@ fn show(rt: &impl Print, name: &str, d: Device) -> io::Result<()> {
 // as AO's.
 fn used() -> Device {
     let mut d = Device::factory();
-    for (block, parameter, a, b) in [
+    for (block, parameter, first, second) in [
         (1, 16, 0x4100_0000, 0),
         (1, 23, 0x4296_0000, 0),
         (1, 25, 0xc120_0000, 0),
@@ -86,28 +87,28 @@ fn used() -> Device {
         (4, 15, 1, 0),
         (5, 22, 7, 0),
     ] {
-        let _ = d.write(block, parameter, a, b);
+        let _ = d.write(block, parameter, Words { first, second });
     }
     let _ = d.telegram(0, b"\x42\x48\x00\x00\x80");
     let _ = d.telegram(2, b"\x01\x80");
-    d.tick(
-        false,
-        Pair {
+    let fed = Fed {
+        ain: Pair {
             bits: 0x4296_0000,
             status: 0x80,
         },
-        Pair {
+        tot: Pair {
             bits: 0x3f80_0000,
             status: 0x80,
         },
-        Discrete {
+        di: Discrete {
             value: 0,
             status: 0x80,
         },
-    );
+    };
+    d.tick(false, fed);
     let _ = d.telegram(1, b"\x00\x00\x00\x00\xa0");
     let _ = d.telegram(3, b"\x00\xa0");
-    let _ = d.write(0, 18, 0, 0);
+    let _ = d.write(0, 18, Words::from(0));
     d
 }
 
@@ -117,7 +118,7 @@ fn tabled() -> Device {
     let _ = d.load(
         b"\x00\x00\x00\x00\x80\x00\x00\x00\x42\x48\x00\x00\x41\xcc\x00\x00\x42\xc8\x00\x00\x42\xc8\x00\x00",
     );
-    let _ = d.write(1, 13, 1, 0);
+    let _ = d.write(1, 13, Words::from(1));
     d
 }
 

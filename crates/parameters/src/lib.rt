@@ -67,7 +67,8 @@ pub struct Words {
     pub second: u32,
 }
 
-// What stands when a write comes: WRITE_LOCKING, the blocks' targets, and whether a linearisation table is loaded.
+// What stands when a write comes: WRITE_LOCKING, the blocks' targets, and whether a linearisation table is loaded. All five
+// targets: which of them a write meets is part of the rule, and a block that is not there has none.
 #[derive(Clone, Copy)]
 pub struct Standing {
     pub lock: u32,

@@ -8,7 +8,7 @@ mod summary;
 ghost use Rattle.script.specs.Command.{Within};
 
 use blocks::setpoint::Order;
-use device::Device;
+use device::{Device, Fed};
 use parameters::Words;
 use script::{Answer, BadLine, Command};
 use std::alloc::{AllocError, Global};
@@ -37,7 +37,7 @@ impl From<AllocError> for Failed {
 
 // ---- calls
 
-// The next four are functions and no `impl From`: both types of each belong to other crates.
+// The next three are functions and no `impl From`: both types of each belong to other crates.
 fn outcome(answer: Result<(), Refusal>) -> Answer<'static> {
     match answer {
         Ok(()) => Answer::Ok,
@@ -101,21 +101,23 @@ fn made<'a>(
             di_value,
             di_status,
         } => {
-            let ain = Pair {
-                bits: ain_bits,
-                status: ain_status,
-            };
-            let tot = Pair {
-                bits: tot_bits,
-                status: tot_status,
-            };
-            let di = Discrete {
-                value: di_value,
-                status: di_status,
+            let fed = Fed {
+                ain: Pair {
+                    bits: ain_bits,
+                    status: ain_status,
+                },
+                tot: Pair {
+                    bits: tot_bits,
+                    status: tot_status,
+                },
+                di: Discrete {
+                    value: di_value,
+                    status: di_status,
+                },
             };
             let before = *device;
-            let orders = device.tick(fault, ain, tot, di);
-            counts.tick(before, *device, summary::failing(before, fault, ain, di));
+            let orders = device.tick(fault, fed);
+            counts.tick(before, *device, summary::failing(before, fault, fed));
             Answer::Orders(
                 order(orders.ao, |x| -> script::Order {
                     script::Order::Position(numbers::floats::bits_of(x))
@@ -135,7 +137,7 @@ fn made<'a>(
             parameter,
             first,
             second,
-        } => outcome(device.write(block, parameter, first, second)),
+        } => outcome(device.write(block, parameter, Words { first, second })),
         Command::Warm => {
             device.warm_start();
             Answer::Ok

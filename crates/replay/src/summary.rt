@@ -1,8 +1,9 @@
 // What a run was answered, counted, and told on standard error at its end.
 use blocks::setpoint::Order;
-use device::Device;
+use device::{Device, Fed};
 use script::Answer;
 use std::io;
+use wire::status::Quality;
 use wire::{Discrete, Pair};
 
 // A value for each block with a fail-safe.
@@ -46,7 +47,7 @@ pub struct Counts {
 
 // Whether an input block goes by its fail-safe: then, and only then, FSAFE_TYPE 2 gives a Bad status in Auto.
 fn is_bad(mode: u32, status: u8) -> bool {
-    mode == blocks::AUTO && wire::quality(status) == 0
+    mode == blocks::AUTO && wire::quality(status) == Quality::Bad
 }
 
 fn ain_fails(d: Device, fault: bool, input: Pair) -> bool {
@@ -58,6 +59,7 @@ fn ain_fails(d: Device, fault: bool, input: Pair) -> bool {
     is_bad(block.state.mode, block.state.out.status)
 }
 
+// DI, in the same way; its settings and its state are of other types.
 fn di_fails(d: Device, fault: bool, input: Discrete) -> bool {
     let mut block = d.di;
     block.settings.fsafe_type = 2;
@@ -82,11 +84,11 @@ fn dout_fails(d: Device, fault: bool) -> bool {
 }
 
 // Which blocks go by their fail-safe in a tick.
-pub fn failing(d: Device, fault: bool, ain: Pair, di: Discrete) -> Blocks<bool> {
+pub fn failing(d: Device, fault: bool, fed: Fed) -> Blocks<bool> {
     Blocks {
-        ain: ain_fails(d, fault, ain),
+        ain: ain_fails(d, fault, fed.ain),
         ao: ao_fails(d, fault),
-        di: di_fails(d, fault, di),
+        di: di_fails(d, fault, fed.di),
         dout: dout_fails(d, fault),
     }
 }

@@ -1,7 +1,9 @@
 -- A word by the library's `position`: past the bytes before it, and to the next space. Assumes nothing.
-use Rattle.std.proofs.Common.{ℕ, suc, ◌+◌, ◌-◌, ◌^◌, ◌<◌, ◌≤◌, ◌≡◌, refl, ◌∙◌, ◌==◌, Bool, not, true, false, cond, ◌&&◌, eqb, leb, Option, None, Some, List, [], ◌∷◌, ◌++◌, length, take, drop, replicate, get_or, get_or-drop, add-zero, append-nil, append_assoc, drop-cons, drop-drop, drop_of_length-le, length-drop, take-suc-set, set, add-one, take_all, ltb-true, ltb-false, leb-true, leb-false, arith}
+use Rattle.std.proofs.Common.{ℕ, suc, ◌+◌, ◌-◌, ◌^◌, ◌<◌, ◌≤◌, ◌≡◌, refl, ◌∙◌, ◌==◌, Bool, not, true, false, cond, ◌&&◌, eqb, leb, Option, None, Some, List, [], ◌∷◌, ◌++◌, length, take, drop, replicate, get_or, get_or-drop, ap, length-append, add-zero, append-nil, append_assoc, drop-cons, drop-drop, drop_of_length-le, length-drop, take-suc-set, set, add-one, take_all, ltb-true, ltb-false, leb-true, leb-false, arith}
 use Rattle.std.proofs.Math.Dec.{ltb}
-use Rattle.std.specs.List.{position, position_or_len}
+use denote.Param.Members.{Mut, Called}
+use Rattle.std.specs.Iterator.{Yields, YieldsFirstBy, ChecksAll}
+use Rattle.std.specs.List.{position, position_or_len, FoldsTo}
 use Rattle.std.specs.Option.{unwrap_or, MatchOption}
 use Rattle.std.proofs.lemmas.List.Sums.{prefix_len-le-length}
 use Rattle.std.proofs.lemmas.List.Quantifiers.{position-Some}
@@ -176,3 +178,45 @@ rest-dropped ws i = first (drop i ws) ∙ drop-drop 1 i ws
     first : (vs : List (List ℕ)) → rest_of vs ≡ drop 1 vs
     first [] = refl
     first (v ∷ vs) = refl
+
+-- ---- words counted and tested
+
+-- there are no more words than bytes
+pub words-short : (w s : List ℕ) → length (words_after w s) ≤ length s + length w
+unfolding words_after
+words-short [] [] = omega arith
+words-short (b ∷ w) [] = omega arith
+words-short w (c ∷ s) = go w (eqb c 32) (words-short [] s) (words-short (w ++ (c ∷ [])) s)
+  where
+    go : (w : List ℕ) (t : Bool) → length (words_after [] s) ≤ length s + 0 → length (words_after (w ++ (c ∷ [])) s) ≤ length s + length (w ++ (c ∷ []))
+        → length (cond t (some w (words_after [] s)) (words_after (w ++ (c ∷ [])) s)) ≤ suc (length s) + length w
+    go [] true h k = omega (arith, h)
+    go (b ∷ v) true h k = omega (arith, h)
+    go v false h k = omega (arith, k, length-append v (c ∷ []))
+
+-- the words that came, up to the end
+pub drained : {S A : Type 0} (view : A → List ℕ) (rest : S → List (List ℕ)) (xs : List A) (s t : S) → Yields (YieldsFirstBy view rest) s xs t → rest t ≡ []
+    → length xs ≡ length (rest s)
+drained view rest [] s t y e = rw (y, e)
+drained view rest (x ∷ xs) s t y e = rw y.1 (ap suc (drained view rest xs y.0 t y.2 e))
+
+-- words that passed were bytes
+passed_all : {S A F : Type 0} (view : A → List ℕ) (rest : S → List (List ℕ)) (g : Mut F (A × Unit {0}) Bool)
+    → ((p : F) (x : A) (b : Bool) (q : F) → Called g p (x, tt) b q → b ≡ up_to 255 (number_of (view x)))
+    → (xs : List A) (s t : S) (f f' : F) → Yields (YieldsFirstBy view rest) s xs t → FoldsTo (λ p x q. Called g p (x, tt) true q) f xs f'
+    → all_bytes (rest s) ≡ all_bytes (rest t)
+passed_all view rest g tests [] s t f f' y z = rw y
+passed_all view rest g tests (x ∷ xs) s t f f' y z =
+    rw (y.1, byte-passed (view x) (rest y.0), ← tests f x true z.0 z.1) (passed_all view rest g tests xs y.0 t z.0 f' y.2 z.2)
+
+-- what `all` answers at a test of bytes
+pub tested : {S A F : Type 0} {g : Mut F (A × Unit {0}) Bool} {r : Bool} {f : F} {s u : S} (view : A → List ℕ) (rest : S → List (List ℕ))
+    → ChecksAll (YieldsFirstBy view rest) g s f r u
+    → ((p : F) (x : A) (b : Bool) (q : F) → Called g p (x, tt) b q → b ≡ up_to 255 (number_of (view x))) → all_bytes (rest s) ≡ r
+unfolding fitting
+tested {S} {A} {F} {g} {r} {f} {s} {u} view rest c tests = passed_all view rest g tests c.0 s c.3.0 f c.2 c.3.1 c.4 ∙ go c.1 c.3.2 c.5
+  where
+    go : (o : Option A) → YieldsFirstBy view rest c.3.0 o u → MatchOption o (r ≡ true) (λ x. (r ≡ false) × ((h : F) × Called g c.2 (x, tt) false h))
+        → all_bytes (rest c.3.0) ≡ r
+    go None l e = rw (e, l.0)
+    go (Some x) l e = rw (e.0, l, byte-passed (view x) (rest u), ← tests c.2 x false e.1.0 e.1.1)

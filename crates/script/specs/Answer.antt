@@ -1,6 +1,5 @@
 -- The line that answers a call, by the call script's table. Assumes nothing.
-use Rattle.std.specs.Prelude.{ℕ, ◌+◌, ◌≤◌, ◌≡◌, List, [], ◌∷◌, ◌++◌, length, Result, MatchResult, IsOk, vec_len, vec_capacity}
-use Rattle.std.specs.Io.{StartsWith}
+use Rattle.std.specs.Prelude.{ℕ, ◌+◌, ◌<◌, ◌≤◌, ◌≡◌, cond, leb, List, [], ◌∷◌, ◌++◌, length, Option, Some, None, Result, MatchResult, IsOk, vec_len, vec_capacity}
 use Rattle.std.specs.declared.vec.Vec.{Vec}
 use Rattle.text.specs.Digits.{hex_byte, hex_word, decimal, signed}
 use Rattle.script.specs.declared.Order.{Order}
@@ -40,13 +39,26 @@ answer_parts (Answer.Bytes row) = (98 ∷ 121 ∷ 116 ∷ 101 ∷ 115 ∷ []) �
 -- `total -16777217`
 answer_parts (Answer.Total z) = (116 ∷ 111 ∷ 116 ∷ 97 ∷ 108 ∷ 32 ∷ []) ∷ signed z ∷ (10 ∷ []) ∷ []
 
--- the line
-abbrev pub line_of : Answer → List ℕ
-line_of answer = joined (answer_parts answer)
+-- parts put one after another behind s, in room for so many bytes in all: a part that does not fit is not put, nor is any after it
+unfoldable pub all_put : ℕ → List ℕ → List (List ℕ) → List ℕ
+all_put room s [] = s
+all_put room s (p ∷ ps) = cond (leb (length s + length p) room) (all_put room (s ++ p) ps) s
 
--- bs stands after what the vector held, where it has room for it or finds some; else what it held, and behind it a front of bs and no more
-pub record Written {A E : Type 0} (old new : Vec ℕ A) (bs : List ℕ) (result : Result (Unit {0}) E) : Type 0 where
-  pub bytes : MatchResult result (λ _. new.items ≡ old.items ++ bs)
-      (λ _. StartsWith new.items old.items × StartsWith (old.items ++ bs) new.items)
+-- the place after them; none where one does not fit
+unfoldable pub place_after_all : ℕ → List ℕ → List (List ℕ) → Option ℕ
+place_after_all room s [] = Some (length s)
+place_after_all room s (p ∷ ps) = cond (leb (length s + length p) room) (place_after_all room (s ++ p) ps) None
+
+-- there was no memory for all parts: behind what the vector held stand the parts that fit in the capacity that it had then, which is too small for all
+pub record Stopped {A : Type 0} (old new : Vec ℕ A) (ps : List (List ℕ)) : Type 0 where
+  pub room : ℕ
+  pub at_least : vec_capacity old ≤ room
+  pub at_most : room ≤ vec_capacity new
+  pub short : room < vec_len old + length (joined ps)
+  pub items : new.items ≡ all_put room old.items ps
+
+-- the parts stand after what the vector held, where it has room for them or finds some; else those up to the first that it had no room for
+pub record Written {A E : Type 0} (old new : Vec ℕ A) (ps : List (List ℕ)) (result : Result (Unit {0}) E) : Type 0 where
+  pub bytes : MatchResult result (λ _. new.items ≡ old.items ++ joined ps) (λ _. Stopped old new ps)
   pub capacity : vec_capacity old ≤ vec_capacity new
-  pub succeeds : vec_len old + length bs ≤ vec_capacity old → IsOk result
+  pub succeeds : vec_len old + length (joined ps) ≤ vec_capacity old → IsOk result

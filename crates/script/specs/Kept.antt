@@ -1,12 +1,12 @@
 -- Laws of the definitions in this folder that no proof outside this file needs. Assumes nothing.
-use Rattle.std.specs.Prelude.{ℕ, suc, ◌+◌, ◌-◌, ◌≤◌, ◌<◌, ◌≡◌, refl, Bool, true, false, ◌&&◌, List, [], ◌∷◌, ◌++◌, length, get_or, take, drop, eqb, ltb, Result, Ok, Err, IsOk, MatchResult, vec_len, vec_capacity}
+use Rattle.std.specs.Prelude.{ℕ, suc, ◌+◌, ◌-◌, ◌≤◌, ◌<◌, ◌≡◌, refl, Bool, true, false, cond, ◌&&◌, List, [], ◌∷◌, ◌++◌, length, get_or, take, drop, eqb, leb, ltb, Result, Ok, Err, IsOk, MatchResult, vec_len, vec_capacity}
 use Rattle.std.specs.Io.{StartsWith}
 use Rattle.std.specs.declared.vec.Vec.{Vec}
-use Rattle.std.proofs.Common.{add-one, arith, sym, ◌∙◌, ap, le_trans, append_assoc, drop_of_length-le, length-append, length-drop, drop-cons, take-suc, get_or-drop, ne_eqb, eqb-true, ltb-true, ltb-false}
+use Rattle.std.proofs.Common.{add-one, arith, sym, ◌∙◌, ap, subst, le_refl, append-nil, append_assoc, take_all, take_at, take-append-drop, drop_of_length-le, length-append, length-drop, drop-cons, take-suc, get_or-drop, ne_eqb, eqb-true, ltb-true, ltb-false, leb-true, leb-false}
 use Rattle.std.proofs.Math.Bool.{and-false}
 use Rattle.std.proofs.lemmas.Bool.{eqb-false}
 use Rattle.text.specs.Digits.{hex_byte}
-use Rattle.script.specs.Answer.{Written, joined, row_parts}
+use Rattle.script.specs.Answer.{Written, Stopped, joined, row_parts, all_put}
 use Rattle.script.specs.Words.{some, words_after, words_of, is_empty, first_of, rest_of, same_bytes}
 
 -- ---- words
@@ -121,6 +121,13 @@ next_word line at from to h k s e p q = go (eqb from to) refl
 
 -- ---- answers
 
+starts_append : (a p c : List ℕ) → StartsWith c (a ++ p) → StartsWith c a
+starts_append a p c h =
+    let n = length (a ++ p) in
+    let e : c ≡ a ++ (p ++ drop n c) = sym (take-append-drop n c) ∙ rw h (append_assoc a p (drop n c)) in
+    let P : List ℕ → Type 0 = λ x. take (length a) x ≡ a in
+    subst P (sym e) (take_at a (p ++ drop n c) (length a) refl)
+
 -- a row's parts from a place on
 pub row_at : (row : List ℕ) (i : ℕ) → i < length row → row_parts (drop i row) ≡ (32 ∷ []) ∷ hex_byte (get_or row i 0) ∷ row_parts (drop (i + 1) row)
 row_at row i h = rw (add-one i, drop-cons row i 0 h)
@@ -128,37 +135,74 @@ row_at row i h = rw (add-one i, drop-cons row i 0 h)
 pub row-ended : (row : List ℕ) (i : ℕ) → length row ≤ i → row_parts (drop i row) ≡ []
 row-ended row i h = rw (drop_of_length-le row {i = i} h)
 
--- parts put after others
-joined-append : (ps qs : List (List ℕ)) → joined (ps ++ qs) ≡ joined ps ++ joined qs
-joined-append [] qs = refl
-joined-append (p ∷ ps) qs = rw (joined-append ps qs) (sym (append_assoc p (joined ps) (joined qs)))
-
-pub put-append : {A E : Type 0} (a b c : Vec ℕ A) (ps qs : List (List ℕ)) (u v : Unit {0}) → Written {E = E} a b (joined ps) (Ok u)
-    → Written {E = E} b c (joined qs) (Ok v) → Written {E = E} a c (joined (ps ++ qs)) (Ok v)
-put-append a b c ps qs u v f g = record {
-  bytes = g.bytes ∙ rw (f.bytes, joined-append ps qs) (append_assoc a.items (joined ps) (joined qs));
-  capacity = le_trans f.capacity g.capacity;
-  succeeds = λ h. refl;
-}
-
--- and the place after them
-pub place-append : {A E : Type 0} (a b c : Vec ℕ A) (ps qs : List (List ℕ)) (u v : Unit {0}) → Written {E = E} a b (joined ps) (Ok u)
-    → Written {E = E} b c (joined qs) (Ok v) → vec_len c ≡ vec_len a + length (joined (ps ++ qs))
-place-append {A} {E} a b c ps qs u v f g =
-    omega (arith, a.ok.0, c.ok.0, ap length (put-append {E = E} a b c ps qs u v f g).bytes, length-append a.items (joined (ps ++ qs)))
+-- parts written leave the place after them
+pub written-place : {A E : Type 0} (a b : Vec ℕ A) (ps : List (List ℕ)) (u : Unit {0}) → Written {E = E} a b ps (Ok u)
+    → vec_len b ≡ vec_len a + length (joined ps)
+written-place a b ps u w = omega (arith, a.ok.0, b.ok.0, ap length w.bytes, length-append a.items (joined ps))
 
 -- where the text of the parts has room, it stands behind what the vector held, and the vector's end is the text's
-pub put_whole : {A E : Type 0} (old new : Vec ℕ A) (ps : List (List ℕ)) (r : Result (Unit {0}) E) → Written old new (joined ps) r
+pub written_whole : {A E : Type 0} (old new : Vec ℕ A) (ps : List (List ℕ)) (r : Result (Unit {0}) E) → Written old new ps r
     → vec_len old + length (joined ps) ≤ vec_capacity old
     → (new.items ≡ old.items ++ joined ps) × (vec_len new ≡ vec_len old + length (joined ps))
-put_whole {A} {E} old new ps r w h = go r (w.succeeds h) w.bytes
+written_whole {A} {E} old new ps r w h = go r (w.succeeds h) w.bytes
   where
-    go : (r : Result (Unit {0}) E) → IsOk r
-        → MatchResult r (λ _. new.items ≡ old.items ++ joined ps)
-        (λ _. StartsWith new.items old.items × StartsWith (old.items ++ joined ps) new.items)
+    go : (r : Result (Unit {0}) E) → IsOk r → MatchResult r (λ _. new.items ≡ old.items ++ joined ps) (λ _. Stopped old new ps)
         → (new.items ≡ old.items ++ joined ps) × (vec_len new ≡ vec_len old + length (joined ps))
     go (Ok u) s e = (e, omega (arith, old.ok.0, new.ok.0, ap length e, length-append old.items (joined ps)))
     go (Err x) s e = absurd (let z : false ≡ true = s in cc)
+
+-- where there is no room for all, the parts before one stand, and that one has no room behind them
+pub record StopsAt (room : ℕ) (s : List ℕ) (ps : List (List ℕ)) : Type 0 where
+  pub k : ℕ
+  pub some_left : k < length ps
+  pub items : all_put room s ps ≡ s ++ joined (take k ps)
+  pub fits : length s + length (joined (take k ps)) ≤ room
+  pub next : room < length s + length (joined (take k ps)) + length (get_or ps k [])
+
+pub put-stops : (room : ℕ) (s : List ℕ) (ps : List (List ℕ)) → length s ≤ room → room < length s + length (joined ps) → StopsAt room s ps
+unfolding all_put
+put-stops room s [] h l = absurd (omega arith)
+put-stops room s (p ∷ ps) h l =
+    let n = length-append s p in
+    let m = length-append p (joined ps) in
+    go (leb (length s + length p) room) refl (λ f. put-stops room (s ++ p) ps (omega arith) (omega arith))
+  where
+    go : (t : Bool) → leb (length s + length p) room ≡ t → (length s + length p ≤ room → StopsAt room (s ++ p) ps) → StopsAt room s (p ∷ ps)
+    go false t more = record {
+      k = 0;
+      some_left = omega arith;
+      items = rw t (sym (append-nil s));
+      fits = omega arith;
+      next = omega (arith, leb-false (length s + length p) room t);
+    }
+    go true t more =
+        let i = more (leb-true (length s + length p) room t) in
+        let n = length-append s p in
+        let o = length-append p (joined (take i.k ps)) in
+        record {
+          k = suc i.k;
+          some_left = omega (arith, i.some_left);
+          items = rw t (i.items ∙ append_assoc s p (joined (take i.k ps)));
+          fits = omega (arith, i.fits);
+          next = omega (arith, i.next);
+        }
+
+-- what stood stands, and behind it a front of the text
+pub put-front : (room : ℕ) (s : List ℕ) (ps : List (List ℕ)) → StartsWith (all_put room s ps) s × StartsWith (s ++ joined ps) (all_put room s ps)
+unfolding all_put
+put-front room s [] = (take_all (length s) s (le_refl (length s)), take_at s [] (length s) refl)
+put-front room s (p ∷ ps) = go (leb (length s + length p) room) (put-front room (s ++ p) ps)
+  where
+    go : (t : Bool) → StartsWith (all_put room (s ++ p) ps) (s ++ p) × StartsWith ((s ++ p) ++ joined ps) (all_put room (s ++ p) ps)
+        → StartsWith (cond t (all_put room (s ++ p) ps) s) s × StartsWith (s ++ (p ++ joined ps)) (cond t (all_put room (s ++ p) ps) s)
+    go false i = (take_all (length s) s (le_refl (length s)), take_at s (p ++ joined ps) (length s) refl)
+    go true i =
+        let P : List ℕ → Type 0 = λ x. StartsWith x (all_put room (s ++ p) ps) in
+        (starts_append s p (all_put room (s ++ p) ps) i.0, subst P (append_assoc s p (joined ps)) i.1)
+
+pub written-front : {A E : Type 0} (a b : Vec ℕ A) (ps : List (List ℕ)) (e : E) → Written a b ps (Err e)
+    → StartsWith b.items a.items × StartsWith (a.items ++ joined ps) b.items
+written-front a b ps e w = rw w.bytes.items (put-front w.bytes.room a.items ps)
 
 -- ---- words counted
 

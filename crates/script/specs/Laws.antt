@@ -1,12 +1,14 @@
 -- Laws of the definitions in this folder, for proofs and for callers. Assumes nothing.
-use Rattle.std.specs.Prelude.{ℕ, zero, suc, ◌≤◌, ◌<◌, ◌≡◌, refl, Option, Some, None, Result, IfOk, IfSome, Bool, true, false, cond, ◌&&◌, List, [], ◌∷◌, length, get_or, replicate, leb, eqb, ltb}
-use Rattle.std.proofs.Common.{arith, leb-true}
+use Rattle.std.specs.Prelude.{ℕ, zero, suc, ◌+◌, ◌≤◌, ◌<◌, ◌≡◌, refl, Option, Some, None, MatchOption, Result, Ok, Err, MatchResult, IfOk, IfSome, Bool, true, false, cond, ◌&&◌, List, [], ◌∷◌, ◌++◌, length, get_or, replicate, leb, eqb, ltb, vec_len}
+use Rattle.std.specs.declared.vec.Vec.{Vec}
+use Rattle.std.proofs.Common.{arith, sym, ◌∙◌, ap, le_trans, append-nil, append_assoc, length-append, le-leb, leb-true}
 use Rattle.script.specs.declared.Name.{Name}
 use Rattle.script.specs.declared.Command.{Command}
 use Rattle.script.specs.declared.BadLine.{BadLine}
 use Rattle.script.specs.Words.{words_of, is_empty, first_of, rest_of, number_of, up_to, value_of, word_value, fitting, each_of, values_of, are_bytes}
 use Rattle.script.specs.Command.{name_of, value_at, tick_limits, tick_of, tick_call, telegram_call, write_call, read_call, image_call, part_call}
 use Rattle.script.specs.Command.{load_call, call_of, named_call, or_error, command_of, Within}
+use Rattle.script.specs.Answer.{joined, all_put, place_after_all, Stopped, Written}
 
 -- the value of a number up to a limit
 pub value-within : (limit : ℕ) (n : Option ℕ) → up_to limit n ≡ true → value_of n ≤ limit
@@ -84,3 +86,127 @@ length-within line =
     by-test (ltb 4096 (length line)) _ _ tt
     (by-test (is_empty ws) _ _ tt
     (by-test (eqb (get_or line 0 0) 35) _ _ tt (error-within d (named-within (name_of (first_of ws)) (rest_of ws)))))
+
+-- ---- answers
+
+-- parts put after others: nothing more where one of those did not fit
+pub put-append : (room : ℕ) (s : List ℕ) (ps qs : List (List ℕ)) → MatchOption (place_after_all room s ps)
+    (all_put room s (ps ++ qs) ≡ all_put room s ps)
+    (λ at. all_put room s (ps ++ qs) ≡ all_put room (all_put room s ps) qs)
+unfolding all_put place_after_all
+put-append room s [] qs = refl
+put-append room s (p ∷ ps) qs = go (leb (length s + length p) room) (put-append room (s ++ p) ps qs)
+  where
+    go : (t : Bool)
+        → MatchOption (place_after_all room (s ++ p) ps)
+        (all_put room (s ++ p) (ps ++ qs) ≡ all_put room (s ++ p) ps)
+        (λ at. all_put room (s ++ p) (ps ++ qs) ≡ all_put room (all_put room (s ++ p) ps) qs)
+        → MatchOption (cond t (place_after_all room (s ++ p) ps) None)
+        (cond t (all_put room (s ++ p) (ps ++ qs)) s ≡ cond t (all_put room (s ++ p) ps) s)
+        (λ at. cond t (all_put room (s ++ p) (ps ++ qs)) s ≡ all_put room (cond t (all_put room (s ++ p) ps) s) qs)
+    go true i = i
+    go false i = refl
+
+-- and the place after them
+pub place-append : (room : ℕ) (s : List ℕ) (ps qs : List (List ℕ)) → MatchOption (place_after_all room s ps)
+    (place_after_all room s (ps ++ qs) ≡ None)
+    (λ at. place_after_all room s (ps ++ qs) ≡ place_after_all room (all_put room s ps) qs)
+unfolding all_put place_after_all
+place-append room s [] qs = refl
+place-append room s (p ∷ ps) qs = go (leb (length s + length p) room) (place-append room (s ++ p) ps qs)
+  where
+    go : (t : Bool)
+        → MatchOption (place_after_all room (s ++ p) ps)
+        (place_after_all room (s ++ p) (ps ++ qs) ≡ None)
+        (λ at. place_after_all room (s ++ p) (ps ++ qs) ≡ place_after_all room (all_put room (s ++ p) ps) qs)
+        → MatchOption (cond t (place_after_all room (s ++ p) ps) None)
+        (cond t (place_after_all room (s ++ p) (ps ++ qs)) None ≡ None)
+        (λ at. cond t (place_after_all room (s ++ p) (ps ++ qs)) None ≡ place_after_all room (cond t (all_put room (s ++ p) ps) s) qs)
+    go true i = i
+    go false i = refl
+
+-- where the text of the parts has room, it stands behind s, and the place after it is its end
+pub put_whole : (room : ℕ) (s : List ℕ) (ps : List (List ℕ)) → length s + length (joined ps) ≤ room
+    → (all_put room s ps ≡ s ++ joined ps) × (place_after_all room s ps ≡ Some (length s + length (joined ps)))
+unfolding all_put place_after_all
+put_whole room s [] h = let e : length s ≡ length s + 0 = omega arith in (sym (append-nil s), ap Some e)
+put_whole room s (p ∷ ps) h =
+    let l = length-append p (joined ps) in
+    let n = length-append s p in
+    let f : leb (length s + length p) room ≡ true = le-leb (length s + length p) room (omega arith) in
+    let i = put_whole room (s ++ p) ps (omega arith) in
+    let e : length (s ++ p) + length (joined ps) ≡ length s + length (p ++ joined ps) = omega arith in
+    (rw f (i.0 ∙ append_assoc s p (joined ps)), rw f (i.1 ∙ ap Some e))
+
+-- where it has not, there is no place after it
+pub put_short : (room : ℕ) (s : List ℕ) (ps : List (List ℕ)) → length s ≤ room → room < length s + length (joined ps) → place_after_all room s ps ≡ None
+unfolding place_after_all
+put_short room s [] k h = absurd (omega arith)
+put_short room s (p ∷ ps) k h =
+    let l = length-append p (joined ps) in
+    let n = length-append s p in
+    go (leb (length s + length p) room) refl (λ f. put_short room (s ++ p) ps (omega arith) (omega arith))
+  where
+    go : (t : Bool) → leb (length s + length p) room ≡ t → (length s + length p ≤ room → place_after_all room (s ++ p) ps ≡ None)
+        → cond t (place_after_all room (s ++ p) ps) None ≡ None
+    go true t i = i (leb-true (length s + length p) room t)
+    go false t i = refl
+
+pub joined-append : (ps qs : List (List ℕ)) → joined (ps ++ qs) ≡ joined ps ++ joined qs
+joined-append [] qs = refl
+joined-append (p ∷ ps) qs = rw (joined-append ps qs) (sym (append_assoc p (joined ps) (joined qs)))
+
+-- parts written after others that were written: all, or as many as there was memory for
+pub written-append : {A F E : Type 0} {a b c : Vec ℕ A} {ps qs : List (List ℕ)} {u : Unit {0}} {r : Result (Unit {0}) E}
+    → Written {E = F} a b ps (Ok u) → Written b c qs r → Written a c (ps ++ qs) r
+written-append {A} {F} {E} {a} {b} {c} {ps} {qs} {u} {r} v w = record {
+  bytes = go r w.bytes;
+  capacity = le_trans v.capacity w.capacity;
+  succeeds = λ h. w.succeeds (omega (arith, h, text, held, v.capacity));
+}
+  where
+    text : length (joined (ps ++ qs)) ≡ length (joined ps) + length (joined qs)
+    text = ap length (joined-append ps qs) ∙ length-append (joined ps) (joined qs)
+
+    held : vec_len b ≡ vec_len a + length (joined ps)
+    held = omega (arith, a.ok.0, b.ok.0, ap length v.bytes, length-append a.items (joined ps))
+
+    go : (r : Result (Unit {0}) E) → MatchResult r (λ _. c.items ≡ b.items ++ joined qs) (λ _. Stopped b c qs)
+        → MatchResult r (λ _. c.items ≡ a.items ++ joined (ps ++ qs)) (λ _. Stopped a c (ps ++ qs))
+    go (Ok x) e = e ∙ rw (v.bytes, joined-append ps qs) (append_assoc a.items (joined ps) (joined qs))
+    go (Err x) e =
+        let whole = put_whole e.room a.items ps (omega (arith, held, a.ok.0, b.ok.1, e.at_least)) in
+        let more : all_put e.room a.items (ps ++ qs) ≡ all_put e.room (all_put e.room a.items ps) qs = rw whole.1 at (put-append e.room a.items ps qs) in
+        record {
+          room = e.room;
+          at_least = le_trans v.capacity e.at_least;
+          at_most = e.at_most;
+          short = omega (arith, e.short, text, held);
+          items = e.items ∙ sym (more ∙ rw (whole.0, v.bytes));
+        }
+
+-- and after others that there was no memory for: those stand that stood
+pub written-stopped : {A E F : Type 0} {a b : Vec ℕ A} {ps : List (List ℕ)} {e : E} (qs : List (List ℕ)) (f : F)
+    → Written a b ps (Err e) → Written {E = F} a b (ps ++ qs) (Err f)
+written-stopped {A} {E} {F} {a} {b} {ps} {e} qs f w = record {
+  bytes = record {
+    room = s.room;
+    at_least = s.at_least;
+    at_most = s.at_most;
+    short = omega (arith, s.short, text);
+    items = s.items ∙ sym same;
+  };
+  capacity = w.capacity;
+  succeeds = λ h. w.succeeds (omega (arith, h, text));
+}
+  where
+    s : Stopped a b ps
+    s = w.bytes
+
+    text : length (joined (ps ++ qs)) ≡ length (joined ps) + length (joined qs)
+    text = ap length (joined-append ps qs) ∙ length-append (joined ps) (joined qs)
+
+    same : all_put s.room a.items (ps ++ qs) ≡ all_put s.room a.items ps
+    same =
+        let none = put_short s.room a.items ps (omega (arith, a.ok.0, a.ok.1, s.at_least)) (omega (arith, a.ok.0, s.short)) in
+        rw none at (put-append s.room a.items ps qs)

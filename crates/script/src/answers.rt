@@ -1,13 +1,13 @@
 // The line that answers a call, appended to those before it.
 ghost use Rattle.std.specs.Prelude.{◌++◌, ◌∷◌, []};
-ghost use Rattle.script.specs.Answer.{Written, joined, order_parts, answer_parts, row_parts, line_of};
+ghost use Rattle.script.specs.Answer.{Written, order_parts, answer_parts, row_parts};
 
 use crate::{Answer, Order};
 use std::alloc::AllocError;
 
 // Each byte of a row after a space.
 fn put_row(out: &mut Vec<u8>, row: &[u8]) -> Result<(), AllocError>
-    ensures { Written out.old out.new (joined (row_parts row.now)) result }
+    ensures { Written out.old out.new (row_parts row.now) result }
 {
     for byte in row {
         out.extend_from_slice(b" ")?;
@@ -17,7 +17,7 @@ fn put_row(out: &mut Vec<u8>, row: &[u8]) -> Result<(), AllocError>
 }
 
 fn put_order(out: &mut Vec<u8>, order: Order) -> Result<(), AllocError>
-    ensures { Written out.old out.new (joined (order_parts order)) result }
+    ensures { Written out.old out.new (order_parts order) result }
 {
     match order {
         Order::Position(bits) => {
@@ -34,7 +34,7 @@ fn put_order(out: &mut Vec<u8>, order: Order) -> Result<(), AllocError>
 }
 
 fn put_orders(out: &mut Vec<u8>, ao: Order, dout: Order) -> Result<(), AllocError>
-    ensures { Written out.old out.new (joined (answer_parts (Answer.Orders ao dout))) result }
+    ensures { Written out.old out.new (answer_parts (Answer.Orders ao dout)) result }
 {
     put_order(out, ao)?;
     out.extend_from_slice(b" ")?;
@@ -43,7 +43,7 @@ fn put_orders(out: &mut Vec<u8>, ao: Order, dout: Order) -> Result<(), AllocErro
 }
 
 fn put_words(out: &mut Vec<u8>, first: u32, second: u32) -> Result<(), AllocError>
-    ensures { Written out.old out.new (joined (answer_parts (Answer.Words first second))) result }
+    ensures { Written out.old out.new (answer_parts (Answer.Words first second)) result }
 {
     out.extend_from_slice(b"words ")?;
     text::put_word(out, first)?;
@@ -52,9 +52,10 @@ fn put_words(out: &mut Vec<u8>, first: u32, second: u32) -> Result<(), AllocErro
     out.extend_from_slice(b"\n")
 }
 
-// Appends the line that answers a call. Where there is no memory for all of it, a front of it may stand there.
+// Appends the line that answers a call. Where there is no memory for a part of it, that part and what follows are not
+// put, and those before it stand.
 pub fn put_answer(out: &mut Vec<u8>, answer: Answer<'_>) -> Result<(), AllocError>
-    ensures { Written out.old out.new (line_of answer.entry) result }
+    ensures { Written out.old out.new (answer_parts answer.entry) result }
 {
     match answer {
         Answer::Ok => out.extend_from_slice(b"ok\n"),

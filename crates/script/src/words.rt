@@ -79,6 +79,7 @@ impl Words<'_> {
             × (v ≡ values_of N (words_of self.entry.rest.now))) }
     {
         let mut values = [0; N];
+        // (By `iter_mut().zip(limits)` a proof knows nothing of the values after the loop.)
         for (i, limit) in limits.iter().enumerate() {
             values[i] = self.number(*limit)?;
         }
@@ -90,13 +91,11 @@ impl Words<'_> {
         ensures { MatchOption result (are_bytes most (words_of self.entry.rest.now) ≡ false)
             (λ n. (are_bytes most (words_of self.entry.rest.now) ≡ true) × (n ≡ length (words_of self.entry.rest.now))) }
     {
-        let mut count = 0;
-        for word in self {
-            if count == most || !is_byte(word) {
-                return None;
-            }
-            count += 1;
+        let mut words = self;
+        if !words.all(is_byte) {
+            return None;
         }
-        Some(count)
+        let count = self.count();
+        (count <= most).then_some(count)
     }
 }

@@ -1,9 +1,10 @@
 -- TOT's tick, document 01, TOT tick and Mode. What a tick adds, the last usable Auto rate and the status are given over plain arguments. Assumes nothing.
-use Rattle.std.specs.Prelude.{ℕ, Bool, true, not, ◌||◌, cond, eqb, ℤ, pos, Float, Ok, Err}
+use Rattle.std.specs.Prelude.{ℕ, Bool, true, not, ◌||◌, cond, eqb, ℤ, pos, Float, Ok, Err, Option, None, Some}
 use Rattle.std.specs.Float.Ieee.Scale.{finite}
 use Rattle.numbers.specs.Floats.{float_of}
 use Rattle.blocks.specs.declared.Kept.{Kept}
-use Rattle.blocks.specs.Common.{out_of_service, man, actual_mode, in_mode, held_out, none, kept, InputStatus, input_status}
+use Rattle.blocks.specs.Common.{out_of_service, man, actual_mode, in_mode, held_out, kept, InputStatus, input_status}
+use Rattle.blocks.specs.InputBlock.{present}
 use Rattle.tot.specs.declared.Settings.{Settings}
 use Rattle.tot.specs.declared.State.{State}
 use Rattle.tot.specs.Total.{increment_of, wanted, next_total, given_bits}
@@ -14,21 +15,26 @@ input_of bits status = input_status status (finite (float_of bits)) true
 
 -- T7, P12d: the rate whose increment an Auto tick that isn't usable adds, if any, by FAIL_TOT: run (0) takes the tick's own if it is finite, hold (1) none,
 -- memory (2) the last usable one, if there is one; another code counts as memory
-unfoldable pub fail_rate : ℕ → Kept → Float → Kept
-fail_rate fail_tot last rate = cond (eqb fail_tot 0) (cond (finite rate) (kept rate) none) (cond (eqb fail_tot 1) none last)
+unfoldable pub fail_rate : ℕ → Option Float → Float → Option Float
+fail_rate fail_tot last rate = cond (eqb fail_tot 0) (present (finite rate) rate) (cond (eqb fail_tot 1) None last)
 
 -- T6, T7: the same of any Auto tick; a usable one takes its own rate
-abbrev pub added_rate : ℕ → Kept → Float → InputStatus → Kept
-added_rate fail_tot last rate (Ok u) = kept rate
+abbrev pub added_rate : ℕ → Option Float → Float → InputStatus → Option Float
+added_rate fail_tot last rate (Ok u) = Some rate
 added_rate fail_tot last rate (Err bad) = fail_rate fail_tot last rate
 
 -- T2, T7: that rate's increment, under the MODE_TOT of this tick, or nothing
-unfoldable pub adds : ℕ → Kept → ℤ
-adds mode_tot rate = cond rate.some (wanted mode_tot (increment_of rate.value)) (pos 0)
+abbrev pub adds : ℕ → Option Float → ℤ
+adds mode_tot None = pos 0
+adds mode_tot (Some rate) = wanted mode_tot (increment_of rate)
+
+-- the last usable rate, if there is one, of what a state keeps
+abbrev pub kept_rate : Kept → Option Float
+kept_rate last = present last.some last.value
 
 -- T6: what an Auto tick with SET_TOT run adds
 unfoldable pub tick_adds : ℕ → ℕ → Kept → ℕ → ℕ → ℤ
-tick_adds mode_tot fail_tot last bits status = adds mode_tot (added_rate fail_tot last (float_of bits) (input_of bits status))
+tick_adds mode_tot fail_tot last bits status = adds mode_tot (added_rate fail_tot (kept_rate last) (float_of bits) (input_of bits status))
 
 -- T7: the rate for memory after an Auto tick: a usable tick's own; other ticks leave it
 abbrev pub last_rate : Kept → Float → InputStatus → Kept
@@ -39,16 +45,20 @@ unfoldable pub tick_rate : Kept → ℕ → ℕ → Kept
 tick_rate last bits status = last_rate last (float_of bits) (input_of bits status)
 
 -- T7: the status of an Auto tick that isn't usable: run shows the Bad one, hold 0x40, memory 0x44, or 0x4C without a rate. T8: reset and preset show run's
-unfoldable pub fail_status : ℕ → ℕ → Kept → ℕ → ℕ
-fail_status set_tot fail_tot last bad = cond (not (eqb set_tot 0) || eqb fail_tot 0) bad (cond (eqb fail_tot 1) 0x40 (cond last.some 0x44 0x4c))
+unfoldable pub fail_status : ℕ → ℕ → Option Float → ℕ → ℕ
+fail_status set_tot fail_tot last bad = cond (not (eqb set_tot 0) || eqb fail_tot 0) bad (cond (eqb fail_tot 1) 0x40 (memory last))
+  where
+    memory : Option Float → ℕ
+    memory None = 0x4c
+    memory (Some rate) = 0x44
 
 -- T5: a usable one shows its input's status
-abbrev pub auto_status : ℕ → ℕ → Kept → ℕ → InputStatus → ℕ
+abbrev pub auto_status : ℕ → ℕ → Option Float → ℕ → InputStatus → ℕ
 auto_status set_tot fail_tot last status (Ok u) = status
 auto_status set_tot fail_tot last status (Err bad) = fail_status set_tot fail_tot last bad
 
 unfoldable pub tick_status : ℕ → ℕ → Kept → ℕ → ℕ → ℕ
-tick_status set_tot fail_tot last bits status = auto_status set_tot fail_tot last status (input_of bits status)
+tick_status set_tot fail_tot last bits status = auto_status set_tot fail_tot (kept_rate last) status (input_of bits status)
 
 -- T6, T8: the total after an Auto tick
 unfoldable pub auto_total : Settings → ℤ → Kept → ℕ → ℕ → ℤ

@@ -3,7 +3,7 @@
 
 ghost use Rattle.std.specs.Prelude.{◌≡◌};
 ghost use Rattle.tot.specs.Total.{increment_of, wanted, thousandths_of, given_bits, next_total};
-ghost use Rattle.tot.specs.Tick.{fail_rate, added_rate, adds, last_rate, fail_status, auto_status, auto_tick, man_tick, out_of_service_tick, tick_of};
+ghost use Rattle.tot.specs.Tick.{fail_rate, added_rate, adds, fail_status, auto_status, auto_tick, man_tick, out_of_service_tick, tick_of};
 ghost use Rattle.tot.specs.State.{fresh_state, written_state, warm_started};
 
 use blocks::{Kept, PairOf};
@@ -20,7 +20,7 @@ const INCREMENT_LIMIT: i64 = 1_000_000_000;
 
 const TOTAL_LIMIT: i64 = 1_000_000_000_000;
 
-// The stored parameters.
+// The stored parameters; codes are numbers, as C holds them and as words are stored.
 #[repr(C)]
 #[derive(Clone, Copy)]
 pub struct Settings {
@@ -67,16 +67,6 @@ pub fn given(total: i64) -> u32
     bits_of(value_of(total) / TOTAL_FACTOR)
 }
 
-// The last usable Auto rate after an Auto tick.
-fn last_rate(last: Kept, rate: f32, input: Result<(), u8>) -> Kept
-    ensures { result ≡ last_rate last rate input }
-{
-    match input {
-        Ok(()) => Kept::from(Some(rate)),
-        Err(_) => last,
-    }
-}
-
 impl Settings {
     // An increment, or 0 where MODE_TOT drops it.
     #[tactic(auto, unfolding(crate::specs::Total::wanted))]
@@ -92,56 +82,52 @@ impl Settings {
     }
 
     // What is added for a rate, if there is one.
-    #[tactic(auto, unfolding(crate::specs::Tick::adds))]
-    fn added(&self, rate: Kept) -> i64
+    fn added(&self, rate: Option<f32>) -> i64
         ensures { result ≡ adds self.now.mode_tot rate }
     {
-        match Option::<f32>::from(rate) {
-            Some(rate) => self.wanted(increment(rate)),
-            None => 0,
-        }
+        rate.map_or(0, |rate| self.wanted(increment(rate)))
     }
 
     // The rate that is added for in an Auto tick that is not usable.
     #[tactic(auto, unfolding(crate::specs::Tick::fail_rate))]
-    fn fail_rate(&self, last: Kept, rate: f32) -> Kept
+    fn fail_rate(&self, last: Option<f32>, rate: f32) -> Option<f32>
         ensures { result ≡ fail_rate self.now.fail_tot last rate }
     {
         match self.fail_tot {
-            0 => Kept::from(is_finite(rate).then_some(rate)),
-            1 => Kept::from(None),
+            0 => is_finite(rate).then_some(rate),
+            1 => None,
             _ => last,
         }
     }
 
     // The rate that is added for in an Auto tick.
-    fn added_rate(&self, last: Kept, rate: f32, input: Result<(), u8>) -> Kept
+    fn added_rate(&self, last: Option<f32>, rate: f32, input: Result<(), u8>) -> Option<f32>
         ensures { result ≡ added_rate self.now.fail_tot last rate input }
     {
         match input {
-            Ok(()) => Kept::from(Some(rate)),
+            Ok(()) => Some(rate),
             Err(_) => self.fail_rate(last, rate),
         }
     }
 
     // The status of an Auto tick that is not usable.
     #[tactic(auto, unfolding(crate::specs::Tick::fail_status))]
-    fn fail_status(&self, last: Kept, bad: u8) -> u8
+    fn fail_status(&self, last: Option<f32>, bad: u8) -> u8
         ensures { result ≡ fail_status self.now.set_tot self.now.fail_tot last bad }
     {
         if self.set_tot != 0 {
             return bad;
         }
-        match self.fail_tot {
-            0 => bad,
-            1 => 0x40,
-            _ if last.some => 0x44,
-            _ => 0x4c,
+        match (self.fail_tot, last) {
+            (0, _) => bad,
+            (1, _) => 0x40,
+            (_, Some(_)) => 0x44,
+            (_, None) => 0x4c,
         }
     }
 
     // The status of an Auto tick.
-    fn status(&self, last: Kept, status: u8, input: Result<(), u8>) -> u8
+    fn status(&self, last: Option<f32>, status: u8, input: Result<(), u8>) -> u8
         ensures { result ≡ auto_status self.now.set_tot self.now.fail_tot last status input }
     {
         match input {
@@ -213,14 +199,17 @@ impl State {
     {
         let rate = float_of(input.bits);
         let judged = blocks::input_status(input.status, is_finite(rate), true);
-        let added = settings.added(settings.added_rate(self.rate, rate, judged));
-        self.total = settings.next_total(self.total, added);
+        let last = Option::from(self.rate);
+        let added = settings.added_rate(last, rate, judged);
+        self.total = settings.next_total(self.total, settings.added(added));
         self.out = Pair {
             bits: given(self.total),
-            status: settings.status(self.rate, input.status, judged),
+            status: settings.status(last, input.status, judged),
         };
         self.mode = mode;
-        self.rate = last_rate(self.rate, rate, judged);
+        if judged.is_ok() {
+            self.rate = Kept::from(Some(rate));
+        }
     }
 
     // An accepted write of TOTAL: the total is set, the status kept for Man ticks; what was given shows it only then.

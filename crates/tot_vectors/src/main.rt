@@ -33,6 +33,8 @@ fn at(total: i64) -> State {
 }
 
 // A block with its parameters. Each step of it writes a line.
+// The other blocks' programs have such steps too, some 40 lines in each: one text for all would need a trait over the types of
+// settings, state and input, and each writes other values in its line.
 #[derive(Clone, Copy)]
 struct Block {
     settings: Settings,
@@ -71,6 +73,13 @@ impl Block {
         self.ticked(rt, true, bits, status)
     }
 
+    fn ticks(&mut self, rt: &impl Print, inputs: &[(u32, u8)]) -> io::Result<()> {
+        for (bits, status) in inputs {
+            self.tick(rt, *bits, *status)?;
+        }
+        Ok(())
+    }
+
     fn write(&mut self, rt: &impl Print, bits: u32, status: u8) -> io::Result<()> {
         self.state.operate(Pair { bits, status });
         print!(rt; "written {bits:08x} {status:02x}")?;
@@ -87,17 +96,18 @@ impl Block {
 // Points E, F and G, and totals that tell clearing from rounding and from keeping 23 or 25 bits.
 fn points(rt: &impl Print) -> io::Result<()> {
     println!(rt; "points")?;
-    let mut b = fresh(settings(rt, 0x08, 0, 0, 0, 0x00000000)?);
-    for (bits, status) in [
-        (0x3c800000, 0x80), // 0.015625
-        (0xbc800000, 0x80), // -0.015625
-        (0xbc800000, 0x80), // -0.015625
-    ] {
-        b.tick(rt, bits, status)?;
-    }
+    let mut b = fresh(settings(rt, blocks::AUTO, 0, 0, 0, 0x00000000)?);
+    b.ticks(
+        rt,
+        &[
+            (0x3c800000, 0x80), // 0.015625
+            (0xbc800000, 0x80), // -0.015625
+            (0xbc800000, 0x80), // -0.015625
+        ],
+    )?;
     b.state = at(16777216);
     b.tick(rt, 0x3c800000, 0x80)?; // 0.015625
-    b.settings = settings(rt, 0x10, 0, 0, 0, 0x00000000)?;
+    b.settings = settings(rt, blocks::MAN, 0, 0, 0, 0x00000000)?;
     for total in [
         16777219,
         16777251,
@@ -119,55 +129,58 @@ fn points(rt: &impl Print) -> io::Result<()> {
 // Cutting is toward zero and not down, of the product as it is rounded.
 fn increments(rt: &impl Print) -> io::Result<()> {
     println!(rt; "increments")?;
-    let mut b = fresh(settings(rt, 0x08, 0, 0, 0, 0x00000000)?);
-    for (bits, status) in [
-        (0x3e947ae1, 0x80), // 0.289999992
-        (0xbe947ae1, 0x80), // -0.289999992
-        (0x3ca30553, 0x80), // 0.0198999997
-        (0xbca30553, 0x80), // -0.0198999997
-        (0x3ba3d70a, 0x80), // 0.00499999989
-        (0xbba3d70a, 0x80), // -0.00499999989
-        (0x80000000, 0x80), // -0
-        (0x00000001, 0x80), // 1.40129846e-45
-        (0x3fa00000, 0x80), // 1.25
-        (0xbfa00000, 0x80), // -1.25
-    ] {
-        b.tick(rt, bits, status)?;
-    }
-    Ok(())
+    let mut b = fresh(settings(rt, blocks::AUTO, 0, 0, 0, 0x00000000)?);
+    b.ticks(
+        rt,
+        &[
+            (0x3e947ae1, 0x80), // 0.289999992
+            (0xbe947ae1, 0x80), // -0.289999992
+            (0x3ca30553, 0x80), // 0.0198999997
+            (0xbca30553, 0x80), // -0.0198999997
+            (0x3ba3d70a, 0x80), // 0.00499999989
+            (0xbba3d70a, 0x80), // -0.00499999989
+            (0x80000000, 0x80), // -0
+            (0x00000001, 0x80), // 1.40129846e-45
+            (0x3fa00000, 0x80), // 1.25
+            (0xbfa00000, 0x80), // -1.25
+        ],
+    )
 }
 
 // The ends of the increment and of the sum, and totals that no device reaches.
 fn limits(rt: &impl Print) -> io::Result<()> {
     println!(rt; "limits")?;
-    let mut b = fresh(settings(rt, 0x08, 0, 0, 0, 0x00000000)?);
-    for (bits, status) in [
-        (0x4b189680, 0x80), // 10000000
-        (0x4b18967f, 0x80), // 9999999
-        (0x4b989680, 0x80), // 20000000
-        (0xcb989680, 0x80), // -20000000
-        (0x7f7fffff, 0x80), // 3.40282347e+38
-        (0xff7fffff, 0x80), // -3.40282347e+38
-        (0xcb189680, 0x80), // -10000000
-    ] {
-        b.tick(rt, bits, status)?;
-    }
+    let mut b = fresh(settings(rt, blocks::AUTO, 0, 0, 0, 0x00000000)?);
+    b.ticks(
+        rt,
+        &[
+            (0x4b189680, 0x80), // 10000000
+            (0x4b18967f, 0x80), // 9999999
+            (0x4b989680, 0x80), // 20000000
+            (0xcb989680, 0x80), // -20000000
+            (0x7f7fffff, 0x80), // 3.40282347e+38
+            (0xff7fffff, 0x80), // -3.40282347e+38
+            (0xcb189680, 0x80), // -10000000
+        ],
+    )?;
     b.state = at(999999999900);
-    for (bits, status) in [
-        (0x3f800000, 0x80), // 1
-        (0x3c23d70a, 0x80), // 0.00999999978
-        (0xbca3d70a, 0x80), // -0.0199999996
-    ] {
-        b.tick(rt, bits, status)?;
-    }
+    b.ticks(
+        rt,
+        &[
+            (0x3f800000, 0x80), // 1
+            (0x3c23d70a, 0x80), // 0.00999999978
+            (0xbca3d70a, 0x80), // -0.0199999996
+        ],
+    )?;
     b.state = at(-999999999900);
-    for (bits, status) in [
-        (0xbf800000, 0x80), // -1
-        (0xcb189680, 0x80), // -10000000
-        (0x3f000000, 0x80), // 0.5
-    ] {
-        b.tick(rt, bits, status)?;
-    }
+    b.ticks(
+        rt,
+        &[
+            (0xbf800000, 0x80), // -1
+            (0xcb189680, 0x80), // -10000000
+            (0x3f000000, 0x80), // 0.5
+        ],
+    )?;
     b.state = at(i64::MAX);
     b.tick(rt, 0x3f800000, 0x80)?; // 1
     b.state = at(i64::MIN);
@@ -177,19 +190,19 @@ fn limits(rt: &impl Print) -> io::Result<()> {
 // MODE_TOT passes both signs, one or none; the status stays the input's. A code past the list counts as hold.
 fn signs(rt: &impl Print) -> io::Result<()> {
     println!(rt; "signs")?;
-    let mut b = fresh(settings(rt, 0x08, 0, 0, 0, 0x00000000)?);
+    let mut b = fresh(settings(rt, blocks::AUTO, 0, 0, 0, 0x00000000)?);
     b.tick(rt, 0x40000000, 0x83)?; // 2
     b.tick(rt, 0xc0400000, 0x4e)?; // -3
-    b.settings = settings(rt, 0x08, 0, 1, 0, 0x00000000)?;
+    b.settings = settings(rt, blocks::AUTO, 0, 1, 0, 0x00000000)?;
     b.tick(rt, 0x40000000, 0x83)?; // 2
     b.tick(rt, 0xc0400000, 0x4e)?; // -3
-    b.settings = settings(rt, 0x08, 0, 2, 0, 0x00000000)?;
+    b.settings = settings(rt, blocks::AUTO, 0, 2, 0, 0x00000000)?;
     b.tick(rt, 0x40000000, 0x83)?; // 2
     b.tick(rt, 0xc0400000, 0x4e)?; // -3
-    b.settings = settings(rt, 0x08, 0, 3, 0, 0x00000000)?;
+    b.settings = settings(rt, blocks::AUTO, 0, 3, 0, 0x00000000)?;
     b.tick(rt, 0x40000000, 0x83)?; // 2
     b.tick(rt, 0xc0400000, 0x4e)?; // -3
-    b.settings = settings(rt, 0x08, 0, 7, 0, 0x00000000)?;
+    b.settings = settings(rt, blocks::AUTO, 0, 7, 0, 0x00000000)?;
     b.tick(rt, 0x40000000, 0x83)?; // 2
     b.tick(rt, 0xc0400000, 0x4e) // -3
 }
@@ -197,73 +210,74 @@ fn signs(rt: &impl Print) -> io::Result<()> {
 // FAIL_TOT run: the Bad status, and the increment of a finite rate.
 fn failures_run(rt: &impl Print) -> io::Result<()> {
     println!(rt; "failures run")?;
-    let mut b = fresh(settings(rt, 0x08, 0, 0, 0, 0x00000000)?);
-    for (bits, status) in [
-        (0x3f800000, 0x0d), // 1
-        (0x3f800000, 0xc3), // 1
-        (0xbf800000, 0xff), // -1
-        (0x7fc00000, 0x80), // NaN
-        (0x7f800000, 0x83), // inf
-        (0xff800000, 0x80), // -inf
-        (0x7fc00000, 0x0d), // NaN
-        (0x7f800000, 0xe0), // inf
-        (0x3f800000, 0x40), // 1
-        (0x7f7fffff, 0x00), // 3.40282347e+38
-        (0xffffffff, 0x80), // NaN
-    ] {
-        b.tick(rt, bits, status)?;
-    }
-    Ok(())
+    let mut b = fresh(settings(rt, blocks::AUTO, 0, 0, 0, 0x00000000)?);
+    b.ticks(
+        rt,
+        &[
+            (0x3f800000, 0x0d), // 1
+            (0x3f800000, 0xc3), // 1
+            (0xbf800000, 0xff), // -1
+            (0x7fc00000, 0x80), // NaN
+            (0x7f800000, 0x83), // inf
+            (0xff800000, 0x80), // -inf
+            (0x7fc00000, 0x0d), // NaN
+            (0x7f800000, 0xe0), // inf
+            (0x3f800000, 0x40), // 1
+            (0x7f7fffff, 0x00), // 3.40282347e+38
+            (0xffffffff, 0x80), // NaN
+        ],
+    )
 }
 
 // FAIL_TOT hold: nothing added, 0x40, whatever the cause.
 fn failures_hold(rt: &impl Print) -> io::Result<()> {
     println!(rt; "failures hold")?;
-    let mut b = fresh(settings(rt, 0x08, 0, 0, 1, 0x00000000)?);
+    let mut b = fresh(settings(rt, blocks::AUTO, 0, 0, 1, 0x00000000)?);
     b.state = at(500);
-    for (bits, status) in [
-        (0x3f800000, 0x0d), // 1
-        (0x3f800000, 0xc3), // 1
-        (0x7fc00000, 0x80), // NaN
-        (0x7f800000, 0x80), // inf
-        (0x3f800000, 0x80), // 1
-        (0x3f800000, 0x00), // 1
-    ] {
-        b.tick(rt, bits, status)?;
-    }
-    Ok(())
+    b.ticks(
+        rt,
+        &[
+            (0x3f800000, 0x0d), // 1
+            (0x3f800000, 0xc3), // 1
+            (0x7fc00000, 0x80), // NaN
+            (0x7f800000, 0x80), // inf
+            (0x3f800000, 0x80), // 1
+            (0x3f800000, 0x00), // 1
+        ],
+    )
 }
 
 // FAIL_TOT memory: the rate of an earlier usable tick, under the MODE_TOT of this one; a code past the list counts as memory.
 fn memory(rt: &impl Print) -> io::Result<()> {
     println!(rt; "memory")?;
-    let mut b = fresh(settings(rt, 0x08, 0, 0, 2, 0x00000000)?);
-    for (bits, status) in [
-        (0x40a00000, 0x00), // 5
-        (0x7fc00000, 0x80), // NaN
-        (0x40000000, 0x80), // 2
-        (0x40e00000, 0x0c), // 7
-        (0x7fc00000, 0x80), // NaN
-    ] {
-        b.tick(rt, bits, status)?;
-    }
-    b.settings = settings(rt, 0x08, 0, 1, 2, 0x00000000)?;
+    let mut b = fresh(settings(rt, blocks::AUTO, 0, 0, 2, 0x00000000)?);
+    b.ticks(
+        rt,
+        &[
+            (0x40a00000, 0x00), // 5
+            (0x7fc00000, 0x80), // NaN
+            (0x40000000, 0x80), // 2
+            (0x40e00000, 0x0c), // 7
+            (0x7fc00000, 0x80), // NaN
+        ],
+    )?;
+    b.settings = settings(rt, blocks::AUTO, 0, 1, 2, 0x00000000)?;
     b.tick(rt, 0xc0000000, 0x80)?; // -2
     b.tick(rt, 0x40e00000, 0xc0)?; // 7
-    b.settings = settings(rt, 0x08, 0, 0, 2, 0x00000000)?;
+    b.settings = settings(rt, blocks::AUTO, 0, 0, 2, 0x00000000)?;
     b.tick(rt, 0x40e00000, 0x00)?; // 7
-    b.settings = settings(rt, 0x08, 0, 3, 2, 0x00000000)?;
+    b.settings = settings(rt, blocks::AUTO, 0, 3, 2, 0x00000000)?;
     b.tick(rt, 0x40400000, 0x50)?; // 3
     b.tick(rt, 0x40e00000, 0x00)?; // 7
-    b.settings = settings(rt, 0x08, 0, 0, 5, 0x00000000)?;
+    b.settings = settings(rt, blocks::AUTO, 0, 0, 5, 0x00000000)?;
     b.tick(rt, 0x7f800000, 0x80)?; // inf
-    b.settings = settings(rt, 0x08, 1, 0, 2, 0x00000000)?;
+    b.settings = settings(rt, blocks::AUTO, 1, 0, 2, 0x00000000)?;
     b.tick(rt, 0x40800000, 0x80)?; // 4
-    b.settings = settings(rt, 0x08, 0, 0, 2, 0x00000000)?;
+    b.settings = settings(rt, blocks::AUTO, 0, 0, 2, 0x00000000)?;
     b.tick(rt, 0x41100000, 0x00)?; // 9
-    b.settings = settings(rt, 0x10, 0, 0, 2, 0x00000000)?;
+    b.settings = settings(rt, blocks::MAN, 0, 0, 2, 0x00000000)?;
     b.tick(rt, 0x40c00000, 0x80)?; // 6
-    b.settings = settings(rt, 0x08, 0, 0, 2, 0x00000000)?;
+    b.settings = settings(rt, blocks::AUTO, 0, 0, 2, 0x00000000)?;
     b.tick(rt, 0x41100000, 0x00)?; // 9
     b.fault_tick(rt, 0x41100000, 0x80)?; // 9
     b.tick(rt, 0x41100000, 0x00)?; // 9
@@ -274,44 +288,45 @@ fn memory(rt: &impl Print) -> io::Result<()> {
 // SET_TOT acts in every Auto tick, whatever its input, under the status of run, and in no other mode.
 fn reset_and_preset(rt: &impl Print) -> io::Result<()> {
     println!(rt; "reset and preset")?;
-    let mut b = fresh(settings(rt, 0x08, 1, 0, 1, 0x00000000)?);
+    let mut b = fresh(settings(rt, blocks::AUTO, 1, 0, 1, 0x00000000)?);
     b.state = at(123456);
     b.tick(rt, 0x3f800000, 0x80)?; // 1
     b.state = at(123456);
     b.tick(rt, 0x3f800000, 0x0d)?; // 1
     b.tick(rt, 0x7fc00000, 0x80)?; // NaN
-    b.settings = settings(rt, 0x08, 2, 0, 2, 0x3e947ae1)?;
-    for (bits, status) in [
-        (0x3f800000, 0x80), // 1
-        (0x3f800000, 0xc0), // 1
-        (0x7f800000, 0x80), // inf
-    ] {
-        b.tick(rt, bits, status)?;
-    }
-    b.settings = settings(rt, 0x08, 2, 3, 0, 0x4e6e6b28)?;
+    b.settings = settings(rt, blocks::AUTO, 2, 0, 2, 0x3e947ae1)?;
+    b.ticks(
+        rt,
+        &[
+            (0x3f800000, 0x80), // 1
+            (0x3f800000, 0xc0), // 1
+            (0x7f800000, 0x80), // inf
+        ],
+    )?;
+    b.settings = settings(rt, blocks::AUTO, 2, 3, 0, 0x4e6e6b28)?;
     b.tick(rt, 0x3f800000, 0x80)?; // 1
-    b.settings = settings(rt, 0x08, 2, 0, 0, 0xce6e6b28)?;
+    b.settings = settings(rt, blocks::AUTO, 2, 0, 0, 0xce6e6b28)?;
     b.tick(rt, 0x3f800000, 0x00)?; // 1
-    b.settings = settings(rt, 0x08, 2, 0, 0, 0xbaf9096c)?;
+    b.settings = settings(rt, blocks::AUTO, 2, 0, 0, 0xbaf9096c)?;
     b.tick(rt, 0x3f800000, 0x80)?; // 1
-    b.settings = settings(rt, 0x08, 9, 0, 0, 0x3af9096c)?;
+    b.settings = settings(rt, blocks::AUTO, 9, 0, 0, 0x3af9096c)?;
     b.tick(rt, 0x3f800000, 0x80)?; // 1
-    b.settings = settings(rt, 0x10, 1, 0, 0, 0x00000000)?;
+    b.settings = settings(rt, blocks::MAN, 1, 0, 0, 0x00000000)?;
     b.tick(rt, 0x3f800000, 0x80)?; // 1
-    b.settings = settings(rt, 0x80, 1, 0, 0, 0x00000000)?;
+    b.settings = settings(rt, blocks::OUT_OF_SERVICE, 1, 0, 0, 0x00000000)?;
     b.tick(rt, 0x3f800000, 0x80)?; // 1
-    b.settings = settings(rt, 0x08, 1, 0, 0, 0x00000000)?;
+    b.settings = settings(rt, blocks::AUTO, 1, 0, 0, 0x00000000)?;
     b.fault_tick(rt, 0x3f800000, 0x80)?; // 1
-    b.settings = settings(rt, 0x08, 0, 0, 0, 0x00000000)?;
+    b.settings = settings(rt, blocks::AUTO, 0, 0, 0, 0x00000000)?;
     b.tick(rt, 0x3f800000, 0x80) // 1
 }
 
 // A written TOTAL is set at once and shown by the next tick outside O/S; its status is for Man ticks alone.
 fn operator(rt: &impl Print) -> io::Result<()> {
     println!(rt; "operator")?;
-    let mut b = fresh(settings(rt, 0x08, 0, 0, 0, 0x00000000)?);
+    let mut b = fresh(settings(rt, blocks::AUTO, 0, 0, 0, 0x00000000)?);
     b.tick(rt, 0x3f800000, 0x80)?; // 1
-    b.settings = settings(rt, 0x10, 0, 0, 0, 0x00000000)?;
+    b.settings = settings(rt, blocks::MAN, 0, 0, 0, 0x00000000)?;
     b.tick(rt, 0x3f800000, 0x80)?; // 1
     b.write(rt, 0x3e947ae1, 0xa7)?;
     b.tick(rt, 0x3f800000, 0x00)?; // 1
@@ -320,11 +335,11 @@ fn operator(rt: &impl Print) -> io::Result<()> {
     b.fault_tick(rt, 0x3f800000, 0x80)?; // 1
     b.tick(rt, 0x3f800000, 0x80)?; // 1
     b.write(rt, 0x4e6e6b28, 0xff)?;
-    b.settings = settings(rt, 0x80, 0, 0, 0, 0x00000000)?;
+    b.settings = settings(rt, blocks::OUT_OF_SERVICE, 0, 0, 0, 0x00000000)?;
     b.tick(rt, 0x3f800000, 0x80)?; // 1
-    b.settings = settings(rt, 0x08, 0, 0, 0, 0x00000000)?;
+    b.settings = settings(rt, blocks::AUTO, 0, 0, 0, 0x00000000)?;
     b.tick(rt, 0x3f800000, 0x81)?; // 1
-    b.settings = settings(rt, 0x10, 0, 0, 0, 0x00000000)?;
+    b.settings = settings(rt, blocks::MAN, 0, 0, 0, 0x00000000)?;
     b.tick(rt, 0x3f800000, 0x81)?; // 1
     b.write(rt, 0x40000000, 0x11)?;
     b.warm(rt)?;
@@ -334,17 +349,17 @@ fn operator(rt: &impl Print) -> io::Result<()> {
 // The fault flag and the target; another target counts as Auto.
 fn modes(rt: &impl Print) -> io::Result<()> {
     println!(rt; "modes")?;
-    let mut b = fresh(settings(rt, 0x80, 0, 0, 0, 0x00000000)?);
+    let mut b = fresh(settings(rt, blocks::OUT_OF_SERVICE, 0, 0, 0, 0x00000000)?);
     b.tick(rt, 0x3f800000, 0x80)?; // 1
-    b.settings = settings(rt, 0x08, 0, 0, 0, 0x00000000)?;
+    b.settings = settings(rt, blocks::AUTO, 0, 0, 0, 0x00000000)?;
     b.tick(rt, 0x3f800000, 0x80)?; // 1
     b.fault_tick(rt, 0x3f800000, 0x80)?; // 1
-    b.settings = settings(rt, 0x10, 0, 0, 0, 0x00000000)?;
+    b.settings = settings(rt, blocks::MAN, 0, 0, 0, 0x00000000)?;
     b.fault_tick(rt, 0x3f800000, 0x80)?; // 1
     b.tick(rt, 0x3f800000, 0x80)?; // 1
-    b.settings = settings(rt, 0x02, 0, 0, 0, 0x00000000)?;
+    b.settings = settings(rt, blocks::RCAS, 0, 0, 0, 0x00000000)?;
     b.tick(rt, 0x3f800000, 0x80)?; // 1
-    b.settings = settings(rt, 0x08, 0, 0, 0, 0x00000000)?;
+    b.settings = settings(rt, blocks::AUTO, 0, 0, 0, 0x00000000)?;
     b.tick(rt, 0x3f800000, 0x00) // 1
 }
 

@@ -1,5 +1,5 @@
 -- The bus image and one block's part of it, document 01, Bus image, and document 02, request 3. Assumes nothing.
-use Rattle.std.specs.Prelude.{ℕ, ◌+◌, ◌*◌, ◌-◌, Bool, cond, ◌&&◌, List, [], ◌++◌, length, take, drop, leb, Result, Ok, Err}
+use Rattle.std.specs.Prelude.{ℕ, ◌+◌, ◌*◌, ◌-◌, Bool, cond, ◌&&◌, List, [], ◌++◌, length, take, drop, leb, Result, Err}
 use Rattle.wire.specs.declared.Pair.{Pair}
 use Rattle.wire.specs.declared.Discrete.{Discrete}
 use Rattle.wire.specs.declared.Refusal.{Refusal}

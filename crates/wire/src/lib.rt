@@ -5,10 +5,12 @@
 pub mod status;
 
 ghost use Rattle.std.specs.Prelude.{◌≡◌};
-ghost use Rattle.wire.specs.Status.{quality_of, sub_status_of, limits_of};
+ghost use Rattle.wire.specs.Status.{quality_of, sub_status_of, limits_of, quality_case, limits_case, quality_number, limits_number};
 ghost use Rattle.wire.specs.Refusal.{refusal_number, answer_number};
 ghost use Rattle.wire.specs.Bytes.{five_bytes, two_bytes, placed_answer, placed, pair_of, discrete_of};
 ghost use Rattle.wire.specs.Image.{image_answer, image_bytes, part_of, part_place};
+
+use status::{Limits, Quality};
 
 // A value by the 32 bits of its float, and its status.
 #[repr(C)]
@@ -72,11 +74,12 @@ pub fn answer_number(answer: Result<(), Refusal>) -> u8
     }
 }
 
-// The three parts of a status byte, as numbers.
-pub fn quality(status: u8) -> u8
-    ensures { result ≡ quality_of status }
+// The three parts of a status byte.
+pub fn quality(status: u8) -> Quality
+    ensures case { result ≡ quality_case (quality_of status) }
+    ensures number { quality_number result ≡ quality_of status }
 {
-    status / 64
+    Quality::from(status / 64)
 }
 
 pub fn sub_status(status: u8) -> u8
@@ -85,10 +88,11 @@ pub fn sub_status(status: u8) -> u8
     status / 4 % 16
 }
 
-pub fn limits(status: u8) -> u8
-    ensures { result ≡ limits_of status }
+pub fn limits(status: u8) -> Limits
+    ensures case { result ≡ limits_case (limits_of status) }
+    ensures number { limits_number result ≡ limits_of status }
 {
-    status % 4
+    Limits::from(status % 4)
 }
 
 impl Pair {

@@ -88,9 +88,9 @@ impl From<u8> for Status {
         ensures { result ≡ split_of status }
     {
         Status {
-            quality: Quality::from(status / 64),
-            sub_status: status / 4 % 16,
-            limits: Limits::from(status % 4),
+            quality: crate::quality(status),
+            sub_status: crate::sub_status(status),
+            limits: crate::limits(status),
         }
     }
 }

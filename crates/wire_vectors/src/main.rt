@@ -10,11 +10,17 @@ use wire::{Discrete, Pair, Refusal};
 
 // ---- lines
 
-// Each byte of a row after a space, and the line's end.
-fn row(rt: &impl Print, bytes: &[u8]) -> io::Result<()> {
+// Each byte after a space.
+fn spaced(rt: &impl Print, bytes: &[u8]) -> io::Result<()> {
     for byte in bytes {
         print!(rt; " {byte:02X}")?;
     }
+    Ok(())
+}
+
+// A row of bytes, and the line's end.
+fn row(rt: &impl Print, bytes: &[u8]) -> io::Result<()> {
+    spaced(rt, bytes)?;
     println!(rt)
 }
 
@@ -56,9 +62,7 @@ fn there_and_back<T: Shown>(
 ) -> io::Result<()> {
     value.show(rt)?;
     print!(rt; ":")?;
-    for byte in bytes {
-        print!(rt; " {byte:02X}")?;
-    }
+    spaced(rt, bytes)?;
     received(rt, back)
 }
 
@@ -102,9 +106,9 @@ fn agrees(status: u8) -> bool {
     let s = Status::from(status);
     let (q, l) = (s.quality, s.limits);
     u8::from(s) == status
-        && wire::quality(status) == u8::from(q)
+        && wire::quality(status) == q
         && wire::sub_status(status) == s.sub_status
-        && wire::limits(status) == u8::from(l)
+        && wire::limits(status) == l
 }
 
 // How many status bytes from 0 on agree, 256 where all do; the three numbers that `quality`, `sub_status` and `limits` give; and the
@@ -116,9 +120,9 @@ fn statuses(rt: &impl Print) -> io::Result<()> {
         0x00, 0x1F, 0x4C, 0x4E, 0x80, 0x89, 0x8E, 0xA0, 0xA3, 0xBC, 0xC0, 0xFF,
     ] {
         let (q, s, l) = (
-            wire::quality(status),
+            u8::from(wire::quality(status)),
             wire::sub_status(status),
-            wire::limits(status),
+            u8::from(wire::limits(status)),
         );
         println!(rt; "status {status:02X} {q} {s} {l}")?;
     }

@@ -1,42 +1,34 @@
-use Rattle.std.proofs.Common.{◌≡◌, sym, ◌∙◌, ◌<◌, length, ap, true, false, leb, le-leb, arith}
+use Rattle.std.proofs.Common.{inl, refl, ◌≡◌, ◌∙◌, ℕ, Bool, true, false, length, List, [], Option, leb, arith}
 use Rattle.std.proofs.Math.Bool.{and-false}
-use borrow.Author.Tests.{lt-leb}
-use Rattle.script.specs.Words.{words_of, up_to, number_of, fitting}
-use Rattle.script.proofs.Lines.{all_bytes, byte-passed}
+use Rattle.std.specs.Option.{MatchOption}
+use Rattle.std.specs.Bool.{then_some}
+use Rattle.script.specs.Words.{words_of, are_bytes}
+use Rattle.script.proofs.Lines.{all_bytes, drained, tested, words-short}
 use Rattle.script.proofs.words.Words.bytes.Goals as goal
-use Rattle.script.proofs.words.Words.bytes.Goals.{then-count-most-via-then-count-most, then-count-most-via-else-count-most+then-not-is_byte}
 
-pub returns-then-count-most : goal.returns-then-count-most
-returns-then-count-most c =
-    let i = c.loop-word.invariant in
-    let s = c.in-Some.ensures.steps in
-    let ws = words_of c.args.self.rest.now in
-    elim c.then-count-most.branch [
-      | then-count-most-via-then-count-most w ↦
-          let more : c.args.most < length ws = omega (arith, w.if-count-most.true, i.counted, ap length s) in
-          rw (lt-leb (length ws) c.args.most more)
-      | then-count-most-via-else-count-most+then-not-is_byte w ↦
-          let no : up_to 255 (number_of c.in-Some.word.now) ≡ false = sym w.if-not-is_byte.ensures in
-          let none : all_bytes ws ≡ false = i.fits ∙ rw (s, byte-passed c.in-Some.word.now (words_of c.next.new.self.rest.now), no) in
-          rw (none, and-false (leb (length ws) c.args.most))
-    ]
+pub returns-then-not-all : goal.returns-then-not-all
+returns-then-not-all c =
+    let a : all_bytes (words_of c.args.self.rest.now) ≡ c.all.result =
+    tested {u = c.all.new.self} (λ w. w.now) (λ s. words_of s.rest.now) c.all.ensures.ran (λ p x b q t. t.met) in
+    rw (a, c.if-not-all.true) (and-false (leb (length (words_of c.args.self.rest.now)) c.args.most))
 
-pub loop-word-preserved : goal.loop-word-preserved
-loop-word-preserved c =
-    let i = c.loop-word.invariant in
-    let s = c.in-Some.ensures.steps in
-    let yes : up_to 255 (number_of c.in-Some.word.now) ≡ true = sym c.if-not-is_byte.ensures in
-    record {
-      most = omega arith;
-      counted = omega (arith, i.counted, ap length s);
-      fits = i.fits ∙ rw (s, byte-passed c.in-Some.word.now (words_of c.next.new.self.rest.now), yes);
-    }
+pub count-count-requires-clause-fits : goal.count-count-requires-clause-fits
+unfolding words_of
+count-count-requires-clause-fits c = inl (omega (arith, words-short [] c.args.self.rest.now, c.ranges.self.0))
+
+counted : (most n : ℕ) (ws : List (List ℕ)) (r : Option ℕ) → r ≡ then_some (leb n most) n → n ≡ length ws → all_bytes ws ≡ true
+    → MatchOption r (are_bytes most ws ≡ false) (λ k. (are_bytes most ws ≡ true) × (k ≡ length ws))
+counted most n ws r e h a = go (leb n most) refl r e
+  where
+    go : (t : Bool) → leb n most ≡ t → (r : Option ℕ) → r ≡ then_some t n → MatchOption r (are_bytes most ws ≡ false) (λ k. (are_bytes most ws ≡ true) × (k ≡ length ws))
+    go true t r e = rw e (rw (a, ← h, t), h)
+    go false t r e = rw e (rw (← h, t))
 
 pub returns : goal.returns
-unfolding fitting
 returns c =
-    let i = c.loop-word.invariant in
-    let s = c.in-None.ensures.steps.0 in
-    let n : c.loop-word.count ≡ length (words_of c.args.self.rest.now) = omega (arith, i.counted, ap length s) in
-    let all : all_bytes (words_of c.args.self.rest.now) ≡ true = i.fits ∙ rw s in
-    (rw (all, le-leb (length (words_of c.args.self.rest.now)) c.args.most (omega arith)), n)
+    let r = c.count-count.ensures.ran in
+    let n : c.count-count.result ≡ length (words_of c.args.self.rest.now) =
+    r.2 ∙ drained (λ w. w.now) (λ s. words_of s.rest.now) r.0 c.args.self r.1.1.0 r.1.1.1 r.1.1.2.0 in
+    let a : all_bytes (words_of c.args.self.rest.now) ≡ c.all.result =
+    tested {u = c.all.new.self} (λ w. w.now) (λ s. words_of s.rest.now) c.all.ensures.ran (λ p x b q t. t.met) in
+    counted c.args.most c.count-count.result (words_of c.args.self.rest.now) c.then_some.result c.then_some.ensures n (a ∙ c.if-not-all.false)
