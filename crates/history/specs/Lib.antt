@@ -7,3 +7,4 @@ pub mod Claim
 pub mod Points
 pub mod Cited
 pub mod Encoded
+pub mod Kept
