@@ -131,15 +131,15 @@ record ReadsAt {A : Type 0} (next : List ℕ → Option (Read A)) (n : ℕ) (val
   reads : (s : List ℕ) (at end : ℕ) → at + n ≡ end → next (drop at s) ≡ cond (lacks n s at) None (read (value_at s at) (drop end s))
 
 module _ {A B : Type 0} where
-  then-cond : (c : Bool) (a : A) (r : List ℕ) (f : A → List ℕ → Option B) → then_read (cond c None (read a r)) f ≡ cond c None (f a r)
-  then-cond true a r f = refl
-  then-cond false a r f = refl
+  then-cond : (c : Bool) (m : Option (Read A)) (f : A → List ℕ → Option B) → then_read (cond c None m) f ≡ cond c None (then_read m f)
+  then-cond true m f = refl
+  then-cond false m f = refl
 
   -- and what follows it
   follows : {next : List ℕ → Option (Read A)} {n : ℕ} {value_at : List ℕ → ℕ → A} → ReadsAt next n value_at
       → (f : A → List ℕ → Option B) (s : List ℕ) (at end : ℕ) → at + n ≡ end
       → then_read (next (drop at s)) f ≡ cond (lacks n s at) None (f (value_at s at) (drop end s))
-  follows {next} {n} {value_at} r f s at end e = rw (r.reads s at end e) (then-cond (lacks n s at) (value_at s at) (drop end s) f)
+  follows {next} {n} {value_at} r f s at end e = rw (r.reads s at end e) (then-cond (lacks n s at) (read (value_at s at) (drop end s)) f)
 
 -- m bytes and then n are m + n
 joined : {A : Type 0} (s : List ℕ) (at m n mid : ℕ) (x : Option A) → at + m ≡ mid
@@ -232,12 +232,9 @@ module _ {B : Type 0} where
       let low = follows word-at (λ low. next_bytes (high * 0x1_0000_0000 + low)) s (at + 4) start (omega (arith, e)) in
       let both = before word-at (λ high s. then_read (next_word s) (λ low. next_bytes (high * 0x1_0000_0000 + low))) s at (at + 4) 4 bytes (omega arith) low in
       let there = (bytes-at n).reads s start (start + n) refl in
-      rw (both, there) (go (lacks 8 s at) (lacks n s start) (take n (drop start s)) (drop (start + n) s))
-    where
-      go : (a b : Bool) (value rest : List ℕ) → then_read (cond a None (cond b None (read value rest))) f ≡ cond a None (cond b None (f value rest))
-      go true b value rest = refl
-      go false true value rest = refl
-      go false false value rest = refl
+      let lent = read (take n (drop start s)) (drop (start + n) s) in
+      rw (both, there) (then-cond (lacks 8 s at) (cond (lacks n s start) None lent) f
+      ∙ ap (λ (y : Option B). cond (lacks 8 s at) None y) (then-cond (lacks n s start) lent f))
 
 -- ---- a call at a place
 
@@ -256,6 +253,7 @@ module _ (s : List ℕ) (at : ℕ) (here : at < length s) where
       go false true p q = absurd (omega (arith, here, ltb-false _ _ p, ltb-true _ _ q))
       go false false p q = refl
 
+  -- where its bytes are missing it is bad, and nothing is read
   kept : (a : Bool) (f : Found) → cond a None (as_read s at f) ≡ as_read s at (cond a (bad at) f)
   kept true f = refl
   kept false f = refl
@@ -374,7 +372,7 @@ module _ (s : List ℕ) (at : ℕ) where
       let f = step_at s at in
       let c = call_of s at f.step in
       one-read left (drop at s) (some-left e)
-      ∙ rw (step-at s at (ltb-true _ _ e), then-cond (is_malformed f.step) c (drop f.next s) (λ c t. more c (calls_in left t)), e, h f.next) refl
+      ∙ rw (step-at s at (ltb-true _ _ e), then-cond (is_malformed f.step) (read c (drop f.next s)) (λ c t. more c (calls_in left t)), e, h f.next) refl
 
 same-from : (left : ℕ) (s : List ℕ) (at : ℕ) → calls_in left (drop at s) ≡ calls_from left s at
 unfolding calls_from
