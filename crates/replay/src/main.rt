@@ -7,14 +7,14 @@ mod summary;
 
 ghost use Rattle.script.specs.Command.{Within};
 
+use arrayvec::{ArrayVec, CapacityError};
 use blocks::setpoint::Order;
 use device::{Device, Fed};
 use parameters::Words;
 use script::{Answer, BadLine, Command};
-use std::alloc::{AllocError, Global};
 use std::env::FillError;
 use std::io;
-use std::io::{BufRead, BufReader, Write};
+use std::io::{Read, Write};
 use std::process::ExitCode;
 use std::rt::Env;
 use summary::Counts;
@@ -25,13 +25,13 @@ use wire::{Discrete, Pair, Refusal};
 enum Failed {
     Input(io::Error),
     Output(io::Error),
-    Memory(AllocError),
     Summary(io::Error),
 }
 
-impl From<AllocError> for Failed {
-    fn from(why: AllocError) -> Failed {
-        Failed::Memory(why)
+// An answer that has no room is not written. None is met: there is room for the longest before each call.
+impl From<CapacityError> for Failed {
+    fn from(_: CapacityError) -> Failed {
+        Failed::Output(io::ErrorKind::WriteZero.into())
     }
 }
 
@@ -159,6 +159,8 @@ fn made<'a>(
 // A line of more bytes is answered `error`, so one byte more is all that is held of it.
 const LINE: usize = 4096;
 
+const HELD: usize = LINE + 1;
+
 const CHUNK: usize = 65536;
 // The longest answer has 198 bytes.
 const ANSWER: usize = 256;
@@ -167,19 +169,19 @@ const ANSWER: usize = 256;
 #[derive(Drop)]
 struct Run {
     device: Device,
-    line: Vec<u8>,
-    answers: Vec<u8>,
+    line: ArrayVec<u8, HELD>,
+    answers: ArrayVec<u8, CHUNK>,
     counts: Counts,
 }
 
 impl Run {
-    fn new(alloc: Global) -> Result<Run, AllocError> {
-        Ok(Run {
+    fn new() -> Run {
+        Run {
             device: Device::factory(),
-            line: Vec::with_capacity(alloc, LINE + 1)?,
-            answers: Vec::with_capacity(alloc, CHUNK)?,
+            line: ArrayVec::new(),
+            answers: ArrayVec::new(),
             counts: Counts::default(),
-        })
+        }
     }
 
     // Writes the answers that are held. After a write that failed nothing is written: answers with a hole would look whole.
@@ -218,9 +220,10 @@ impl Run {
     }
 
     // Adds bytes to the line.
-    fn hold(&mut self, bytes: &[u8]) -> Result<(), AllocError> {
-        let room = (LINE + 1).saturating_sub(self.line.len());
-        self.line.extend_from_slice(&bytes[..bytes.len().min(room)])
+    fn hold(&mut self, bytes: &[u8]) -> Result<(), CapacityError> {
+        let room = self.line.remaining_capacity();
+        self.line
+            .try_extend_from_slice(&bytes[..bytes.len().min(room)])
     }
 
     // Makes the calls of a chunk's lines. What follows its last 0x0A is held.
@@ -240,18 +243,16 @@ impl Run {
 
 // Reads to the input's end. The answers are written before more is read: who sends calls may wait for them. A last line
 // without 0x0A counts as well, but not what came of a line before a read that failed.
-fn replay(rt: &(impl Input + Print), alloc: Global) -> Result<Counts, Failed> {
-    let mut input = BufReader::with_capacity(alloc, CHUNK, rt.reader()).map_err(Failed::Input)?;
-    let mut run = Run::new(alloc)?;
+fn replay(rt: &(impl Input + Print)) -> Result<Counts, Failed> {
+    let mut input = [0u8; CHUNK];
+    let mut run = Run::new();
     // A proved loop has to end, and nothing says that input does: its turns are counted, up to a number that no run uses up.
     for _ in 0..u64::MAX {
-        let chunk = input.fill_buf().map_err(Failed::Input)?;
-        let n = chunk.len();
+        let n = rt.reader().read(&mut input).map_err(Failed::Input)?;
         if n == 0 {
             break;
         }
-        run.take(rt, chunk)?;
-        input.consume(n);
+        run.take(rt, &input[..n])?;
         run.flush(rt)?;
     }
     if !run.line.is_empty() {
@@ -279,12 +280,8 @@ fn asked(rt: &impl Env) -> Option<bool> {
     }
 }
 
-fn replay_all(
-    rt: &(impl Input + Print + Eprint),
-    alloc: Global,
-    summary: bool,
-) -> Result<(), Failed> {
-    let counts = replay(rt, alloc)?;
+fn replay_all(rt: &(impl Input + Print + Eprint), summary: bool) -> Result<(), Failed> {
+    let counts = replay(rt)?;
     if summary {
         summary::tell(rt, counts).map_err(Failed::Summary)?;
     }
@@ -299,11 +296,10 @@ fn main(rt: HostRuntime) -> ExitCode {
         );
         return ExitCode::SUCCESS;
     };
-    let _ = match replay_all(&rt, rt.alloc(), summary) {
+    let _ = match replay_all(&rt, summary) {
         Ok(()) => return ExitCode::SUCCESS,
         Err(Failed::Input(why)) => eprintln!(rt; "standard input: {why}"),
         Err(Failed::Output(why)) => eprintln!(rt; "standard output: {why}"),
-        Err(Failed::Memory(why)) => eprintln!(rt; "memory: {why}"),
         Err(Failed::Summary(_)) => Ok(()),
     };
     ExitCode::FAILURE

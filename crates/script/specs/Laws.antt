@@ -1,7 +1,8 @@
 -- Laws of the definitions in this folder, for proofs and for callers. Assumes nothing.
-use Rattle.std.specs.Prelude.{ℕ, zero, suc, ◌+◌, ◌≤◌, ◌<◌, ◌≡◌, refl, Option, Some, None, MatchOption, Result, Ok, Err, MatchResult, IfOk, IfSome, Bool, true, false, cond, ◌&&◌, List, [], ◌∷◌, ◌++◌, length, get_or, replicate, leb, eqb, ltb, vec_len}
-use Rattle.std.specs.declared.vec.Vec.{Vec}
-use Rattle.std.proofs.Common.{arith, sym, ◌∙◌, ap, le_trans, append-nil, append_assoc, length-append, le-leb, leb-true}
+use Rattle.std.specs.Prelude.{ℕ, zero, suc, ◌+◌, ◌≤◌, ◌<◌, ◌≡◌, refl, Option, Some, None, MatchOption, Result, Ok, Err, MatchResult, IfOk, IfSome, Bool, true, false, cond, ◌&&◌, List, [], ◌∷◌, ◌++◌, length, get_or, replicate, leb, eqb, ltb}
+use Rattle.arrayvec.specs.ArrayVec.{ArrayVec, array_vec_len}
+use Rattle.std.proofs.Common.{arith, sym, ◌∙◌, ap, append-nil, append_assoc, length-append, le-leb, leb-true}
+use borrow.Author.Tests.{lt-leb}
 use Rattle.script.specs.declared.Name.{Name}
 use Rattle.script.specs.declared.Command.{Command}
 use Rattle.script.specs.declared.BadLine.{BadLine}
@@ -156,57 +157,56 @@ pub joined-append : (ps qs : List (List ℕ)) → joined (ps ++ qs) ≡ joined p
 joined-append [] qs = refl
 joined-append (p ∷ ps) qs = rw (joined-append ps qs) (sym (append_assoc p (joined ps) (joined qs)))
 
--- parts written after others that were written: all, or as many as there was memory for
-pub written-append : {A F E : Type 0} {a b c : Vec ℕ A} {ps qs : List (List ℕ)} {u : Unit {0}} {r : Result (Unit {0}) E}
-    → Written {E = F} a b ps (Ok u) → Written b c qs r → Written a c (ps ++ qs) r
-written-append {A} {F} {E} {a} {b} {c} {ps} {qs} {u} {r} v w = record {
+-- nor is anything more put
+put-more : (room : ℕ) (s : List ℕ) (ps qs : List (List ℕ)) → room < length s + length (joined ps) → all_put room s (ps ++ qs) ≡ all_put room s ps
+unfolding all_put
+put-more room s [] [] h = refl
+put-more room s [] (q ∷ qs) h = let f : leb (length s + length q) room ≡ false = lt-leb (length s + length q) room (omega arith) in rw f
+put-more room s (p ∷ ps) qs h =
+    let l = length-append p (joined ps) in
+    let n = length-append s p in
+    go (leb (length s + length p) room) (put-more room (s ++ p) ps qs (omega arith))
+  where
+    go : (t : Bool) → all_put room (s ++ p) (ps ++ qs) ≡ all_put room (s ++ p) ps
+        → cond t (all_put room (s ++ p) (ps ++ qs)) s ≡ cond t (all_put room (s ++ p) ps) s
+    go true i = i
+    go false i = refl
+
+-- parts written after others that were written: all, or as many as there was room for
+pub written-append : {F E : Type 0} {N : ℕ} {a b c : ArrayVec ℕ} {ps qs : List (List ℕ)} {u : Unit {0}} {r : Result (Unit {0}) E}
+    → Written {E = F} N a b ps (Ok u) → Written N b c qs r → Written N a c (ps ++ qs) r
+written-append {F} {E} {N} {a} {b} {c} {ps} {qs} {u} {r} v w = record {
   bytes = go r w.bytes;
-  capacity = le_trans v.capacity w.capacity;
-  succeeds = λ h. w.succeeds (omega (arith, h, text, held, v.capacity));
+  succeeds = (λ k. omega (arith, w.succeeds.0 k, text, held), λ h. w.succeeds.1 (omega (arith, h, text, held)));
 }
   where
     text : length (joined (ps ++ qs)) ≡ length (joined ps) + length (joined qs)
     text = ap length (joined-append ps qs) ∙ length-append (joined ps) (joined qs)
 
-    held : vec_len b ≡ vec_len a + length (joined ps)
-    held = omega (arith, a.ok.0, b.ok.0, ap length v.bytes, length-append a.items (joined ps))
+    held : array_vec_len b ≡ array_vec_len a + length (joined ps)
+    held = ap length v.bytes ∙ length-append a.items (joined ps)
 
-    go : (r : Result (Unit {0}) E) → MatchResult r (λ _. c.items ≡ b.items ++ joined qs) (λ _. Stopped b c qs)
-        → MatchResult r (λ _. c.items ≡ a.items ++ joined (ps ++ qs)) (λ _. Stopped a c (ps ++ qs))
+    go : (r : Result (Unit {0}) E) → MatchResult r (λ _. c.items ≡ b.items ++ joined qs) (λ _. Stopped N b c qs)
+        → MatchResult r (λ _. c.items ≡ a.items ++ joined (ps ++ qs)) (λ _. Stopped N a c (ps ++ qs))
     go (Ok x) e = e ∙ rw (v.bytes, joined-append ps qs) (append_assoc a.items (joined ps) (joined qs))
     go (Err x) e =
-        let whole = put_whole e.room a.items ps (omega (arith, held, a.ok.0, b.ok.1, e.at_least)) in
-        let more : all_put e.room a.items (ps ++ qs) ≡ all_put e.room (all_put e.room a.items ps) qs = rw whole.1 at (put-append e.room a.items ps qs) in
+        let whole = put_whole N a.items ps (v.succeeds.0 refl) in
+        let more : all_put N a.items (ps ++ qs) ≡ all_put N (all_put N a.items ps) qs = rw whole.1 at (put-append N a.items ps qs) in
         record {
-          room = e.room;
-          at_least = le_trans v.capacity e.at_least;
-          at_most = e.at_most;
           short = omega (arith, e.short, text, held);
           items = e.items ∙ sym (more ∙ rw (whole.0, v.bytes));
         }
 
--- and after others that there was no memory for: those stand that stood
-pub written-stopped : {A E F : Type 0} {a b : Vec ℕ A} {ps : List (List ℕ)} {e : E} (qs : List (List ℕ)) (f : F)
-    → Written a b ps (Err e) → Written {E = F} a b (ps ++ qs) (Err f)
-written-stopped {A} {E} {F} {a} {b} {ps} {e} qs f w = record {
-  bytes = record {
-    room = s.room;
-    at_least = s.at_least;
-    at_most = s.at_most;
-    short = omega (arith, s.short, text);
-    items = s.items ∙ sym same;
-  };
-  capacity = w.capacity;
-  succeeds = λ h. w.succeeds (omega (arith, h, text));
+-- and after others that there was no room for: those stand that stood
+pub written-stopped : {E F : Type 0} {N : ℕ} {a b : ArrayVec ℕ} {ps : List (List ℕ)} {e : E} (qs : List (List ℕ)) (f : F)
+    → Written N a b ps (Err e) → Written {E = F} N a b (ps ++ qs) (Err f)
+written-stopped {E} {F} {N} {a} {b} {ps} {e} qs f w = record {
+  bytes = record { short = omega (arith, s.short, text); items = s.items ∙ sym (put-more N a.items ps qs s.short) };
+  succeeds = (λ k. absurd (let z : false ≡ true = k in cc), λ h. absurd (omega (arith, h, s.short, text)));
 }
   where
-    s : Stopped a b ps
+    s : Stopped N a b ps
     s = w.bytes
 
     text : length (joined (ps ++ qs)) ≡ length (joined ps) + length (joined qs)
     text = ap length (joined-append ps qs) ∙ length-append (joined ps) (joined qs)
-
-    same : all_put s.room a.items (ps ++ qs) ≡ all_put s.room a.items ps
-    same =
-        let none = put_short s.room a.items ps (omega (arith, a.ok.0, a.ok.1, s.at_least)) (omega (arith, a.ok.0, s.short)) in
-        rw none at (put-append s.room a.items ps qs)

@@ -1,4 +1,4 @@
-// Numbers as text, over bytes: appended to a vector, and read from a word.
+// Numbers as text, over bytes: appended to a vector of a fixed capacity, and read from a word.
 #![tactic(auto)]
 
 ghost use Rattle.std.specs.Prelude.{◌≡◌, ◌≤◌, ◌<◌};
@@ -6,8 +6,8 @@ ghost use Rattle.text.specs.Appended.{Appends};
 ghost use Rattle.text.specs.Number.{digits_number, word_number};
 ghost use Rattle.text.specs.Digits.{digit as digit_byte, hex_byte, hex_word, decimal, signed};
 
+use arrayvec::{ArrayVec, CapacityError};
 use itoa::Buffer;
-use std::alloc::AllocError;
 
 // The byte of a digit: capital letters from ten on, where `char::from_digit` of std has small ones.
 fn digit(d: u8) -> u8
@@ -28,33 +28,33 @@ fn hex(byte: u8) -> [u8; 2]
 }
 
 // Appends a byte as two capital hexadecimal digits.
-pub fn put_byte(out: &mut Vec<u8>, byte: u8) -> Result<(), AllocError>
-    ensures { Appends out.old out.new (hex_byte byte) result }
+pub fn put_byte<const N: usize>(out: &mut ArrayVec<u8, N>, byte: u8) -> Result<(), CapacityError>
+    ensures { Appends N out.old out.new (hex_byte byte) result }
 {
-    out.extend_from_slice(&hex(byte))
+    out.try_extend_from_slice(&hex(byte))
 }
 
 // Appends a word as `0x` and eight capital hexadecimal digits.
-pub fn put_word(out: &mut Vec<u8>, word: u32) -> Result<(), AllocError>
-    ensures { Appends out.old out.new (hex_word word) result }
+pub fn put_word<const N: usize>(out: &mut ArrayVec<u8, N>, word: u32) -> Result<(), CapacityError>
+    ensures { Appends N out.old out.new (hex_word word) result }
 {
     let [a, b, c, d] = word.to_be_bytes();
     let text = [*b"0x", hex(a), hex(b), hex(c), hex(d)];
-    out.extend_from_slice(text.as_flattened())
+    out.try_extend_from_slice(text.as_flattened())
 }
 
 // Appends a whole number in decimal, without leading zeros.
-pub fn put_decimal(out: &mut Vec<u8>, n: u64) -> Result<(), AllocError>
-    ensures { Appends out.old out.new (decimal n) result }
+pub fn put_decimal<const N: usize>(out: &mut ArrayVec<u8, N>, n: u64) -> Result<(), CapacityError>
+    ensures { Appends N out.old out.new (decimal n) result }
 {
-    out.extend_from_slice(Buffer::new().format(n).as_bytes())
+    out.try_extend_from_slice(Buffer::new().format(n).as_bytes())
 }
 
 // Appends a whole number in decimal, without leading zeros, a negative one after the sign `-`.
-pub fn put_signed(out: &mut Vec<u8>, z: i64) -> Result<(), AllocError>
-    ensures { Appends out.old out.new (signed z) result }
+pub fn put_signed<const N: usize>(out: &mut ArrayVec<u8, N>, z: i64) -> Result<(), CapacityError>
+    ensures { Appends N out.old out.new (signed z) result }
 {
-    out.extend_from_slice(Buffer::new().format(z).as_bytes())
+    out.try_extend_from_slice(Buffer::new().format(z).as_bytes())
 }
 
 // The number of one or more digits in a base.

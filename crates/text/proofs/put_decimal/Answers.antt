@@ -4,6 +4,6 @@ use Rattle.text.proofs.Decimals.{decimal_is}
 use Rattle.text.proofs.put_decimal.Goals as goal
 
 pub returns : goal.returns
-returns c =
-    let P : List ℕ → Type 0 = λ bs. Appends c.args.out.now c.extend_from_slice.new.self bs c.extend_from_slice.result in
+returns g c =
+    let P : List ℕ → Type 0 = λ bs. Appends g.row.N c.args.out.now c.try_extend_from_slice.new.self bs c.try_extend_from_slice.result in
     subst P (decimal_is c.args.n c.ranges.n.fits) (search rules)
