@@ -5,6 +5,7 @@
 
 mod summary;
 
+ghost use Rattle.std.specs.Prelude.{◌≡◌, ◌-◌, ◌++◌, [], length, take, IsOk, OnOk};
 ghost use Rattle.script.specs.Command.{Within};
 
 use arrayvec::{ArrayVec, CapacityError};
@@ -185,7 +186,10 @@ impl Run {
     }
 
     // Writes the answers that are held. After a write that failed nothing is written: answers with a hole would look whole.
-    fn flush(&mut self, rt: &impl Print) -> Result<(), Failed> {
+    fn flush(&mut self, rt: &impl Print) -> Result<(), Failed>
+        ensures line { self.new.line ≡ self.old.line }
+        ensures answers { OnOk result (self.new.answers.items ≡ []) }
+    {
         io::writer(rt)
             .write_all(self.answers.as_slice())
             .map_err(Failed::Output)?;
@@ -194,7 +198,9 @@ impl Run {
     }
 
     // Makes the call of the line that is held, which is whole.
-    fn call(&mut self, rt: &impl Print) -> Result<(), Failed> {
+    fn call(&mut self, rt: &impl Print) -> Result<(), Failed>
+        ensures { OnOk result (self.new.line.items ≡ []) }
+    {
         let mut room = [0u8; 256];
         let line = self.line.as_slice();
         let answer = match script::parse(line) {
@@ -219,8 +225,11 @@ impl Run {
         Ok(())
     }
 
-    // Adds bytes to the line.
-    fn hold(&mut self, bytes: &[u8]) -> Result<(), CapacityError> {
+    // Adds bytes to the line, as many as it has room for.
+    fn hold(&mut self, bytes: &[u8]) -> Result<(), CapacityError>
+        ensures fits { IsOk result }
+        ensures line { self.new.line.items ≡ self.old.line.items ++ take (4097 - length self.old.line.items) bytes.now }
+    {
         let room = self.line.remaining_capacity();
         self.line
             .try_extend_from_slice(&bytes[..bytes.len().min(room)])

@@ -4,3 +4,4 @@ pub mod Command
 pub mod Answer
 pub mod Laws
 pub mod Kept
+pub mod Place

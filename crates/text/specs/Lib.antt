@@ -2,4 +2,5 @@
 pub mod Appended
 pub mod Digits
 pub mod Number
+pub mod Place
 pub mod Laws
