@@ -4,98 +4,153 @@
 // number.
 #![tactic(auto)]
 
+use arrayvec::{ArrayVec, CapacityError};
 use std::io;
+use std::io::Write;
 use wire::status::{Limits, Quality, Status};
 use wire::{Discrete, Pair, Refusal};
 
 // ---- lines
 
+// A line that is filled, and then written whole, by one write. The longest has 115 bytes.
+type Line = ArrayVec<u8, 200>;
+
+// What ends the program early.
+#[derive(Drop)]
+struct Failed(io::Error);
+
+impl From<io::Error> for Failed {
+    fn from(why: io::Error) -> Failed {
+        Failed(why)
+    }
+}
+
+// A line that does not fit is not written. None is met.
+impl From<CapacityError> for Failed {
+    fn from(_: CapacityError) -> Failed {
+        Failed(io::ErrorKind::WriteZero.into())
+    }
+}
+
+// A space and a decimal number.
+fn put_number(line: &mut Line, n: u64) -> Result<(), CapacityError> {
+    line.try_extend_from_slice(b" ")?;
+    text::put_decimal(line, n)
+}
+
 // Each byte after a space.
-fn spaced(rt: &impl Print, bytes: &[u8]) -> io::Result<()> {
+fn put_row(line: &mut Line, bytes: &[u8]) -> Result<(), CapacityError> {
     for byte in bytes {
-        print!(rt; " {byte:02X}")?;
+        line.try_extend_from_slice(b" ")?;
+        text::put_byte(line, *byte)?;
     }
     Ok(())
 }
 
-// A row of bytes, and the line's end.
-fn row(rt: &impl Print, bytes: &[u8]) -> io::Result<()> {
-    spaced(rt, bytes)?;
-    println!(rt)
+// Ends a line, writes it, and clears it for the next.
+fn show(rt: &impl Print, line: &mut Line) -> Result<(), Failed> {
+    line.try_extend_from_slice(b"\n")?;
+    io::writer(rt).write_all(line.as_slice())?;
+    line.clear();
+    Ok(())
 }
 
 // A value with its status, as a line shows it.
 trait Shown: Copy {
-    fn show(self, rt: &impl Print) -> io::Result<()>;
+    fn put(self, line: &mut Line) -> Result<(), CapacityError>;
 }
 
 impl Shown for Pair {
-    fn show(self, rt: &impl Print) -> io::Result<()> {
-        print!(rt; "0x{:08X} {:02X}", self.bits, self.status)
+    fn put(self, line: &mut Line) -> Result<(), CapacityError> {
+        text::put_word(line, self.bits)?;
+        put_row(line, &[self.status])
     }
 }
 
 impl Shown for Discrete {
-    fn show(self, rt: &impl Print) -> io::Result<()> {
-        print!(rt; "{} {:02X}", self.value, self.status)
+    fn put(self, line: &mut Line) -> Result<(), CapacityError> {
+        text::put_decimal(line, self.value.into())?;
+        put_row(line, &[self.status])
     }
 }
 
 // What bytes stand for.
-fn received<T: Shown>(rt: &impl Print, of: Result<T, Refusal>) -> io::Result<()> {
+fn received<T: Shown>(
+    rt: &impl Print,
+    line: &mut Line,
+    of: Result<T, Refusal>,
+) -> Result<(), Failed> {
     match of {
         Ok(value) => {
-            print!(rt; " = ")?;
-            value.show(rt)?;
+            line.try_extend_from_slice(b" = ")?;
+            value.put(line)?;
         }
-        Err(refusal) => print!(rt; " refused {}", refusal.number())?,
+        Err(refusal) => {
+            line.try_extend_from_slice(b" refused")?;
+            put_number(line, refusal.number().into())?;
+        }
     }
-    println!(rt)
+    show(rt, line)
 }
 
 // A value put into bytes, and the bytes read again.
 fn there_and_back<T: Shown>(
     rt: &impl Print,
+    line: &mut Line,
     value: T,
     bytes: &[u8],
     back: Result<T, Refusal>,
-) -> io::Result<()> {
-    value.show(rt)?;
-    print!(rt; ":")?;
-    spaced(rt, bytes)?;
-    received(rt, back)
+) -> Result<(), Failed> {
+    value.put(line)?;
+    line.try_extend_from_slice(b":")?;
+    put_row(line, bytes)?;
+    received(rt, line, back)
+}
+
+// The answer to a call, and the bytes of its buffer after it.
+fn answered(
+    rt: &impl Print,
+    line: &mut Line,
+    answer: Result<(), Refusal>,
+    buf: &[u8],
+) -> Result<(), Failed> {
+    line.try_extend_from_slice(b":")?;
+    put_number(line, wire::answer_number(answer).into())?;
+    put_row(line, buf)?;
+    show(rt, line)
 }
 
 // Bytes put at a place of a buffer.
 fn put_at<const N: usize>(
     rt: &impl Print,
-    name: &str,
+    line: &mut Line,
+    name: &[u8],
     place: usize,
     bytes: [u8; N],
     buf: &mut [u8],
-) -> io::Result<()> {
+) -> Result<(), Failed> {
     let answer = wire::put(buf, place, bytes);
-    print!(rt; "{name} {place}: {}", wire::answer_number(answer))?;
-    row(rt, buf)
+    line.try_extend_from_slice(name)?;
+    put_number(line, place as u64)?;
+    answered(rt, line, answer, buf)
 }
 
 // ---- status bytes
 
 // Sixteen status bytes in a line: the first, and after a space the parts of each, with points between them, as a `Status` has them.
-fn all_parts(rt: &impl Print) -> io::Result<()> {
+fn all_parts(rt: &impl Print, line: &mut Line) -> Result<(), Failed> {
     for status in 0..=255u8 {
         let s = Status::from(status);
         if status % 16 == 0 {
-            print!(rt; "{status:02X}")?;
+            text::put_byte(line, status)?;
         }
-        print!(rt;
-            " {}.{}.{}",
-            u8::from(s.quality),
-            s.sub_status,
-            u8::from(s.limits)
-        )?;
+        put_number(line, u8::from(s.quality).into())?;
+        line.try_extend_from_slice(b".")?;
+        text::put_decimal(line, s.sub_status.into())?;
+        line.try_extend_from_slice(b".")?;
+        text::put_decimal(line, u8::from(s.limits).into())?;
         if status % 16 == 15 {
-            println!(rt)?;
+            show(rt, line)?;
         }
     }
     Ok(())
@@ -113,18 +168,20 @@ fn agrees(status: u8) -> bool {
 
 // How many status bytes from 0 on agree, 256 where all do; the three numbers that `quality`, `sub_status` and `limits` give; and the
 // status byte built from Good, a sub-status and a high limit.
-fn statuses(rt: &impl Print) -> io::Result<()> {
+fn statuses(rt: &impl Print, line: &mut Line) -> Result<(), Failed> {
     let agreeing = (0..256).take_while(|status| agrees(*status as u8)).count();
-    println!(rt; "agree {agreeing}")?;
+    line.try_extend_from_slice(b"agree")?;
+    put_number(line, agreeing as u64)?;
+    show(rt, line)?;
     for status in [
         0x00, 0x1F, 0x4C, 0x4E, 0x80, 0x89, 0x8E, 0xA0, 0xA3, 0xBC, 0xC0, 0xFF,
     ] {
-        let (q, s, l) = (
-            u8::from(wire::quality(status)),
-            wire::sub_status(status),
-            u8::from(wire::limits(status)),
-        );
-        println!(rt; "status {status:02X} {q} {s} {l}")?;
+        line.try_extend_from_slice(b"status")?;
+        put_row(line, &[status])?;
+        put_number(line, u8::from(wire::quality(status)).into())?;
+        put_number(line, wire::sub_status(status).into())?;
+        put_number(line, u8::from(wire::limits(status)).into())?;
+        show(rt, line)?;
     }
     for sub_status in [3, 15, 16, 255] {
         let s = Status {
@@ -132,7 +189,10 @@ fn statuses(rt: &impl Print) -> io::Result<()> {
             sub_status,
             limits: Limits::High,
         };
-        println!(rt; "built {sub_status} {:02X}", u8::from(s))?;
+        line.try_extend_from_slice(b"built")?;
+        put_number(line, sub_status.into())?;
+        put_row(line, &[u8::from(s)])?;
+        show(rt, line)?;
     }
     Ok(())
 }
@@ -140,7 +200,7 @@ fn statuses(rt: &impl Print) -> io::Result<()> {
 // ---- pairs
 
 // Zeros, subnormals, the ends of the finite numbers, infinities and patterns of NaN; places of eight bytes; the first bytes of seven.
-fn pairs(rt: &impl Print) -> io::Result<()> {
+fn pairs(rt: &impl Print, line: &mut Line) -> Result<(), Failed> {
     for (bits, status) in [
         (0x0000_0000, 0x00),
         (0x8000_0000, 0x80),
@@ -158,42 +218,51 @@ fn pairs(rt: &impl Print) -> io::Result<()> {
     ] {
         let pair = Pair { bits, status };
         let five = pair.to_bytes();
-        there_and_back(rt, pair, &five, Pair::try_from(five.as_slice()))?;
+        there_and_back(rt, line, pair, &five, Pair::try_from(five.as_slice()))?;
     }
     let pair = Pair {
         bits: 0x1122_3344,
         status: 0x55,
     };
     for place in [0, 1, 3, 4, 8, 9, 18446744073709551611, 18446744073709551615] {
-        put_at(rt, "put", place, pair.to_bytes(), &mut [0xA5; 8])?;
+        put_at(rt, line, b"put", place, pair.to_bytes(), &mut [0xA5; 8])?;
     }
     let seven = [0x42, 0x48, 0x00, 0x00, 0x80, 0x99, 0x77];
     for length in [0, 4, 5, 6] {
-        print!(rt; "pair of {length}")?;
-        received(rt, Pair::try_from(&seven[..length.min(7)]))?;
+        line.try_extend_from_slice(b"pair of")?;
+        put_number(line, length as u64)?;
+        received(rt, line, Pair::try_from(&seven[..length.min(7)]))?;
     }
     Ok(())
 }
 
 // Values and statuses, places of four bytes and the first of five, at their ends.
-fn discretes(rt: &impl Print) -> io::Result<()> {
+fn discretes(rt: &impl Print, line: &mut Line) -> Result<(), Failed> {
     for (value, status) in [(0, 0x80), (1, 0xC0), (7, 0x04), (255, 0xFF)] {
         let pair = Discrete { value, status };
         let two = pair.to_bytes();
-        print!(rt; "discrete ")?;
-        there_and_back(rt, pair, &two, Discrete::try_from(two.as_slice()))?;
+        line.try_extend_from_slice(b"discrete ")?;
+        there_and_back(rt, line, pair, &two, Discrete::try_from(two.as_slice()))?;
     }
     let pair = Discrete {
         value: 1,
         status: 0x55,
     };
     for place in [0, 1, 2, 3, 4, 18446744073709551614, 18446744073709551615] {
-        put_at(rt, "put discrete", place, pair.to_bytes(), &mut [0xA5; 4])?;
+        put_at(
+            rt,
+            line,
+            b"put discrete",
+            place,
+            pair.to_bytes(),
+            &mut [0xA5; 4],
+        )?;
     }
     let five = [0x01, 0x80, 0x99, 0x77, 0x55];
     for length in [0, 1, 2, 3, 5] {
-        print!(rt; "discrete of {length}")?;
-        received(rt, Discrete::try_from(&five[..length.min(5)]))?;
+        line.try_extend_from_slice(b"discrete of")?;
+        put_number(line, length as u64)?;
+        received(rt, line, Discrete::try_from(&five[..length.min(5)]))?;
     }
     Ok(())
 }
@@ -201,7 +270,7 @@ fn discretes(rt: &impl Print) -> io::Result<()> {
 // ---- the image
 
 // The image in the first bytes of twenty-two, of which all are shown.
-fn images(rt: &impl Print) -> io::Result<()> {
+fn images(rt: &impl Print, line: &mut Line) -> Result<(), Failed> {
     let ain = Pair {
         bits: 0x4248_0000,
         status: 0x80,
@@ -225,29 +294,36 @@ fn images(rt: &impl Print) -> io::Result<()> {
     for length in [0, 15, 18, 19, 20, 22] {
         let mut buf = [0xA5; 22];
         let answer = wire::image(&mut buf[..length.min(22)], ain, tot, ao, di, dout);
-        print!(rt; "image {length}: {}", wire::answer_number(answer))?;
-        row(rt, &buf)?;
+        line.try_extend_from_slice(b"image")?;
+        put_number(line, length as u64)?;
+        answered(rt, line, answer, &buf)?;
     }
     Ok(())
 }
 
 // Each block's part of the first bytes of twenty that hold 0, 1, 2, ..
-fn parts(rt: &impl Print) -> io::Result<()> {
+fn parts(rt: &impl Print, line: &mut Line) -> Result<(), Failed> {
     let buf = [
         0, 1, 2, 3, 4, 5, 6, 7, 8, 9, 10, 11, 12, 13, 14, 15, 16, 17, 18, 19,
     ];
     for length in [15, 18, 19, 20] {
         for block in [0, 1, 2, 3, 4, 5, 6, 255] {
-            print!(rt; "part {block} of {length}:")?;
-            row(rt, wire::part(&buf[..length.min(20)], block))?;
+            line.try_extend_from_slice(b"part")?;
+            put_number(line, block.into())?;
+            line.try_extend_from_slice(b" of")?;
+            put_number(line, length as u64)?;
+            line.try_extend_from_slice(b":")?;
+            put_row(line, wire::part(&buf[..length.min(20)], block))?;
+            show(rt, line)?;
         }
     }
     Ok(())
 }
 
 // The numbers of the refusals, after that of an accepted call.
-fn refusals(rt: &impl Print) -> io::Result<()> {
-    print!(rt; "answers {}", wire::answer_number(Ok(())))?;
+fn refusals(rt: &impl Print, line: &mut Line) -> Result<(), Failed> {
+    line.try_extend_from_slice(b"answers")?;
+    put_number(line, wire::answer_number(Ok(())).into())?;
     for refusal in [
         Refusal::NoSuchBlock,
         Refusal::NoSuchParameter,
@@ -260,17 +336,22 @@ fn refusals(rt: &impl Print) -> io::Result<()> {
         Refusal::NotWholePairs,
         Refusal::NotRising,
     ] {
-        print!(rt; " {}", wire::answer_number(Err(refusal)))?;
+        put_number(line, wire::answer_number(Err(refusal)).into())?;
     }
-    println!(rt)
+    show(rt, line)
+}
+
+fn show_all(rt: &impl Print) -> Result<(), Failed> {
+    let mut line = Line::new();
+    all_parts(rt, &mut line)?;
+    statuses(rt, &mut line)?;
+    pairs(rt, &mut line)?;
+    discretes(rt, &mut line)?;
+    images(rt, &mut line)?;
+    parts(rt, &mut line)?;
+    refusals(rt, &mut line)
 }
 
 fn main(rt: HostRuntime) -> io::Result<()> {
-    all_parts(&rt)?;
-    statuses(&rt)?;
-    pairs(&rt)?;
-    discretes(&rt)?;
-    images(&rt)?;
-    parts(&rt)?;
-    refusals(&rt)
+    show_all(&rt).map_err(|failed| failed.0)
 }
