@@ -161,16 +161,19 @@ fn ends() -> Device {
 
 // ---- bytes unpacked
 
-// The answer, and of which device: the one that packs to these bytes, or the factory's.
+// The answer, and of which device: the one that packs to these bytes, or the factory's. A refusal hands back none: then it is of
+// the one that the factory's bytes are unpacked to, with which a caller goes on.
 fn unpacked(rt: &impl Print, name: &str, bytes: &[u8]) -> io::Result<()> {
-    let (device, answer) = match packing::unpack(bytes) {
-        Ok(device) => (device, 0),
-        Err(reason) => (Device::factory(), reason.number()),
-    };
     let mut again = [0u8; 564];
     let mut fresh = [0u8; 564];
-    let _ = packing::pack(device, &mut again);
     let _ = packing::pack(Device::factory(), &mut fresh);
+    let (device, answer) = match packing::unpack(bytes) {
+        Ok(device) => (Ok(device), 0),
+        Err(reason) => (packing::unpack(&fresh), reason.number()),
+    };
+    if let Ok(device) = device {
+        let _ = packing::pack(device, &mut again);
+    }
     print!(rt; "{name}: {answer}")?;
     if bytes == again.as_slice() {
         print!(rt; ", packs to the bytes")?;
