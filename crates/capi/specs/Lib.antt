@@ -1,2 +1,3 @@
 -- The definitions that `capi`'s contracts cite.
 pub mod Numbers
+pub mod Blocks
