@@ -4,11 +4,11 @@
 // wrong place or with its words in another order, a refused call that counts, a malformed list of which a part counts.
 #![tactic(auto)]
 
+use arrayvec::{ArrayVec, CapacityError};
 use blocks::setpoint::Order;
 use device::{Device, Fed};
 use numbers::floats::bits_of;
 use parameters::Words;
-use std::alloc::AllocError;
 use std::io;
 use wire::{Discrete, Pair, Refusal};
 
@@ -95,38 +95,41 @@ const FALLING: &[u8] = b"\x3f\x80\x00\x00\x00\x00\x00\x00\x00\x00\x00\x00\x00\x0
 // 50 on SP, Good.
 const SP_50: Call<'static> = Telegram(0, 5, b"\x42\x48\x00\x00\x80");
 
-fn put(list: &mut Vec<u8>, call: Call<'_>) -> Result<(), AllocError> {
+// A list as bytes. None here is longer.
+type List = ArrayVec<u8, 256>;
+
+fn put(list: &mut List, call: Call<'_>) -> Result<(), CapacityError> {
     match call {
-        WarmStart => list.extend_from_slice(&[0]),
+        WarmStart => list.try_extend_from_slice(&[0]),
         Tick(fault, fed) => {
-            list.extend_from_slice(&[1, fault])?;
-            list.extend_from_slice(&fed.ain.to_bytes())?;
-            list.extend_from_slice(&fed.tot.to_bytes())?;
-            list.extend_from_slice(&fed.di.to_bytes())
+            list.try_extend_from_slice(&[1, fault])?;
+            list.try_extend_from_slice(&fed.ain.to_bytes())?;
+            list.try_extend_from_slice(&fed.tot.to_bytes())?;
+            list.try_extend_from_slice(&fed.di.to_bytes())
         }
         Write(block, parameter, a, b) => {
-            list.extend_from_slice(&[2, block, parameter])?;
-            list.extend_from_slice(&a.to_be_bytes())?;
-            list.extend_from_slice(&b.to_be_bytes())
+            list.try_extend_from_slice(&[2, block, parameter])?;
+            list.try_extend_from_slice(&a.to_be_bytes())?;
+            list.try_extend_from_slice(&b.to_be_bytes())
         }
         Telegram(input, length, bytes) => {
-            list.extend_from_slice(&[3, input])?;
-            list.extend_from_slice(&length.to_be_bytes())?;
-            list.extend_from_slice(bytes)
+            list.try_extend_from_slice(&[3, input])?;
+            list.try_extend_from_slice(&length.to_be_bytes())?;
+            list.try_extend_from_slice(bytes)
         }
         Load(length, bytes) => {
-            list.extend_from_slice(&[4])?;
-            list.extend_from_slice(&length.to_be_bytes())?;
-            list.extend_from_slice(bytes)
+            list.try_extend_from_slice(&[4])?;
+            list.try_extend_from_slice(&length.to_be_bytes())?;
+            list.try_extend_from_slice(bytes)
         }
-        Other(kind) => list.extend_from_slice(&[kind]),
+        Other(kind) => list.try_extend_from_slice(&[kind]),
     }
 }
 
-fn list_of(rt: &HostRuntime, calls: &[Call<'_>]) -> Result<Vec<u8>, AllocError> {
-    let mut list = Vec::new(rt.alloc());
+fn list_of(calls: &[Call<'_>]) -> io::Result<List> {
+    let mut list = List::new();
     for call in calls {
-        put(&mut list, *call)?;
+        put(&mut list, *call).map_err(|_| io::Error::from(io::ErrorKind::WriteZero))?;
     }
     Ok(list)
 }
@@ -248,7 +251,7 @@ fn list(rt: &HostRuntime, name: &str, calls: &[Call<'_>], wanted: &[Read]) -> io
 
 fn lists(rt: &HostRuntime, name: &str, calls: &[Call<'_>], wanted: &[&[Read]]) -> io::Result<()> {
     print!(rt; "{name}:")?;
-    let Some(device) = history::replay(list_of(rt, calls)?.as_slice()) else {
+    let Some(device) = history::replay(list_of(calls)?.as_slice()) else {
         return println!(rt; " told malformed;");
     };
     let mut passed = true;
@@ -260,7 +263,7 @@ fn lists(rt: &HostRuntime, name: &str, calls: &[Call<'_>], wanted: &[&[Read]]) -
 
 // A malformed list, the last bytes of its calls left out. Nothing of it counts: what is read after it is the factory device's.
 fn malformed(rt: &HostRuntime, name: &str, calls: &[Call<'_>], left_out: usize) -> io::Result<()> {
-    let list = list_of(rt, calls)?;
+    let list = list_of(calls)?;
     let bytes = list.as_slice();
     let front = bytes.get(..bytes.len().saturating_sub(left_out));
     let front = front.unwrap_or(bytes);
@@ -792,7 +795,7 @@ fn numbered(
 
 // Whether the next tick orders AO to 50.
 fn orders_50(rt: &HostRuntime, name: &str, calls: &[Call<'_>]) -> io::Result<()> {
-    let list = list_of(rt, calls)?;
+    let list = list_of(calls)?;
     let order = history::order_after(list.as_slice(), false, zeros());
     passes(
         rt,
@@ -805,7 +808,7 @@ fn orders_50(rt: &HostRuntime, name: &str, calls: &[Call<'_>]) -> io::Result<()>
 fn order_after(rt: &HostRuntime) -> io::Result<()> {
     let calls = [SP_50, telegram(2, b"\x01\x80")];
     orders_50(rt, "a tick's order after a telegram", &calls[..1])?;
-    let list = list_of(rt, &calls)?;
+    let list = list_of(&calls)?;
     let order = history::order_d_after(list.as_slice(), false, zeros());
     passes(
         rt,
@@ -821,7 +824,7 @@ fn words(first: u32, second: u32) -> Words {
 // Ground 6 fresh, and none once the target is Man. Four bytes are 7. OUT_D 2 is 5, before 6; block 6 is 1. Input 4 is 8, and three
 // bytes on input 2 are 7.
 fn answers_after(rt: &HostRuntime) -> io::Result<()> {
-    let man = list_of(rt, &[Write(1, 5, 0x10, 0)])?;
+    let man = list_of(&[Write(1, 5, 0x10, 0)])?;
     for (name, list, block, parameter, a, number) in [
         (
             "a write of OUT, fresh",
@@ -881,7 +884,7 @@ fn image_after(rt: &HostRuntime) -> io::Result<()> {
 
 // A rate of 10 adds 1000, and ALARM_HYS is 0.5.
 fn total_after(rt: &HostRuntime) -> io::Result<()> {
-    let list = list_of(rt, &[tick_rate(0x4120_0000)])?;
+    let list = list_of(&[tick_rate(0x4120_0000)])?;
     let total = history::total_after(list.as_slice());
     passes(rt, "the total after a tick", total == 1000)?;
     let reading = history::read_after(list.as_slice(), 1, 19);
@@ -932,7 +935,7 @@ fn by_the_last_table(rt: &HostRuntime) -> io::Result<()> {
 
 // Locked is 4, also of no byte; else no byte is 9, falling x 10, and the first table of a head 0.
 fn loads_after(rt: &HostRuntime) -> io::Result<()> {
-    let locked = list_of(rt, &[Write(0, 18, 0, 0)])?;
+    let locked = list_of(&[Write(0, 18, 0, 0)])?;
     let locked = locked.as_slice();
     numbered(rt, "a load, fresh", history::load_after(b"", SLOPE), 0)?;
     numbered(
