@@ -56,8 +56,11 @@ fn show_structs(rt: &impl Print, bytes: &[u8]) -> io::Result<()> {
         show_words(rt, front)?;
         left = behind;
     }
-    print!(rt; "  after them")?;
-    show_words(rt, left)
+    print!(rt; "  after them ")?;
+    for byte in left {
+        print!(rt; "{byte:02x}")?;
+    }
+    println!(rt)
 }
 
 // A device's words, from a buffer that has a byte more.
