@@ -199,7 +199,7 @@ impl Run {
 
     // Makes the call of the line that is held, which is whole.
     fn call(&mut self, rt: &impl Print) -> Result<(), Failed>
-        ensures { OnOk result (self.new.line.items ≡ []) }
+        ensures { self.new.line.items ≡ [] }
     {
         let mut room = [0u8; 256];
         let line = self.line.as_slice();
@@ -215,10 +215,10 @@ impl Run {
             Err(BadLine) => Some(Answer::Error),
         };
         self.counts.line(line, answer);
+        self.line.clear();
         if let Some(answer) = answer {
             script::put_answer(&mut self.answers, answer)?;
         }
-        self.line.clear();
         if self.answers.len() > CHUNK - ANSWER {
             self.flush(rt)?;
         }
