@@ -217,7 +217,7 @@ impl Run {
         self.counts.line(line, answer);
         self.line.clear();
         if let Some(answer) = answer {
-            script::put_answer(&mut self.answers, answer)?;
+            script::fit_answer(&mut self.answers, answer)?;
         }
         if self.answers.len() > CHUNK - ANSWER {
             self.flush(rt)?;

@@ -1,4 +1,5 @@
 -- The lemmas that several proofs share.
 pub mod Lines
 pub mod Told
+pub mod Fitted
 pub mod Written

@@ -1,5 +1,6 @@
 -- The line that answers a call, by the call script's table. Assumes nothing.
-use Rattle.std.specs.Prelude.{ℕ, ◌+◌, ◌<◌, ◌≤◌, ◌≡◌, ◌↔◌, cond, leb, List, [], ◌∷◌, ◌++◌, length, Option, Some, None, Result, MatchResult, IsOk}
+use Rattle.std.specs.Prelude.{ℕ, ◌+◌, ◌<◌, ◌≤◌, ◌≡◌, ◌↔◌, cond, leb, List, [], ◌∷◌, ◌++◌, length, Option, Some, None, Result, MatchResult, IsOk, vec_len, vec_capacity}
+use Rattle.std.specs.declared.vec.Vec.{Vec}
 use Rattle.arrayvec.specs.ArrayVec.{ArrayVec, array_vec_len}
 use Rattle.text.specs.Digits.{hex_byte, hex_word, decimal, signed}
 use Rattle.script.specs.declared.Order.{Order}
@@ -49,12 +50,26 @@ unfoldable pub place_after_all : ℕ → List ℕ → List (List ℕ) → Option
 place_after_all room s [] = Some (length s)
 place_after_all room s (p ∷ ps) = cond (leb (length s + length p) room) (place_after_all room (s ++ p) ps) None
 
+-- there was no memory for all parts: behind what the vector held stand the parts that fit in the capacity that it had then, which is too small for all
+pub record Stopped {A : Type 0} (old new : Vec ℕ A) (ps : List (List ℕ)) : Type 0 where
+  pub room : ℕ
+  pub at_least : vec_capacity old ≤ room
+  pub at_most : room ≤ vec_capacity new
+  pub short : room < vec_len old + length (joined ps)
+  pub items : new.items ≡ all_put room old.items ps
+
+-- the parts stand after what the vector held, where it has room for them or finds some; else those up to the first that it had no room for
+pub record Written {A E : Type 0} (old new : Vec ℕ A) (ps : List (List ℕ)) (result : Result (Unit {0}) E) : Type 0 where
+  pub bytes : MatchResult result (λ _. new.items ≡ old.items ++ joined ps) (λ _. Stopped old new ps)
+  pub capacity : vec_capacity old ≤ vec_capacity new
+  pub succeeds : vec_len old + length (joined ps) ≤ vec_capacity old → IsOk result
+
 -- the capacity, N, is too small for all parts: behind what the vector held stand those that fit, up to the first that does not
-pub record Stopped (N : ℕ) (old new : ArrayVec ℕ) (ps : List (List ℕ)) : Type 0 where
+pub record Filled (N : ℕ) (old new : ArrayVec ℕ) (ps : List (List ℕ)) : Type 0 where
   pub short : N < array_vec_len old + length (joined ps)
   pub items : new.items ≡ all_put N old.items ps
 
 -- the parts stand after what the vector held exactly where it has room for all; else those up to the first that it had no room for
-pub record Written {E : Type 0} (N : ℕ) (old new : ArrayVec ℕ) (ps : List (List ℕ)) (result : Result (Unit {0}) E) : Type 0 where
-  pub bytes : MatchResult result (λ _. new.items ≡ old.items ++ joined ps) (λ _. Stopped N old new ps)
+pub record Fitted {E : Type 0} (N : ℕ) (old new : ArrayVec ℕ) (ps : List (List ℕ)) (result : Result (Unit {0}) E) : Type 0 where
+  pub bytes : MatchResult result (λ _. new.items ≡ old.items ++ joined ps) (λ _. Filled N old new ps)
   pub succeeds : IsOk result ↔ (array_vec_len old + length (joined ps) ≤ N)

@@ -1,12 +1,13 @@
 -- Laws of the definitions in this folder that no proof outside this file needs. Assumes nothing.
-use Rattle.std.specs.Prelude.{ℕ, suc, ◌+◌, ◌-◌, ◌≤◌, ◌<◌, ◌≡◌, refl, Bool, true, false, cond, ◌&&◌, List, [], ◌∷◌, ◌++◌, length, get_or, take, drop, eqb, leb, ltb, Result, Ok, Err, IsOk, MatchResult}
+use Rattle.std.specs.Prelude.{ℕ, suc, ◌+◌, ◌-◌, ◌≤◌, ◌<◌, ◌≡◌, refl, Bool, true, false, cond, ◌&&◌, List, [], ◌∷◌, ◌++◌, length, get_or, take, drop, eqb, leb, ltb, Result, Ok, Err, IsOk, MatchResult, vec_len, vec_capacity}
 use Rattle.std.specs.Io.{StartsWith}
+use Rattle.std.specs.declared.vec.Vec.{Vec}
 use Rattle.arrayvec.specs.ArrayVec.{ArrayVec, array_vec_len}
 use Rattle.std.proofs.Common.{add-one, arith, sym, ◌∙◌, ap, subst, le_refl, append-nil, append_assoc, take_all, take_at, take-append-drop, drop_of_length-le, length-append, length-drop, drop-cons, take-suc, get_or-drop, ne_eqb, eqb-true, ltb-true, ltb-false, leb-true, leb-false}
 use Rattle.std.proofs.Math.Bool.{and-false}
 use Rattle.std.proofs.lemmas.Bool.{eqb-false}
 use Rattle.text.specs.Digits.{hex_byte}
-use Rattle.script.specs.Answer.{Written, Stopped, joined, row_parts, all_put}
+use Rattle.script.specs.Answer.{Written, Stopped, Fitted, Filled, joined, row_parts, all_put}
 use Rattle.script.specs.Words.{some, words_after, words_of, is_empty, first_of, rest_of, same_bytes}
 
 -- ---- words
@@ -136,17 +137,33 @@ pub row-ended : (row : List ℕ) (i : ℕ) → length row ≤ i → row_parts (d
 row-ended row i h = rw (drop_of_length-le row {i = i} h)
 
 -- parts written leave the place after them
-pub written-place : {E : Type 0} (N : ℕ) (a b : ArrayVec ℕ) (ps : List (List ℕ)) (u : Unit {0}) → Written {E = E} N a b ps (Ok u)
+pub written-place : {A E : Type 0} (a b : Vec ℕ A) (ps : List (List ℕ)) (u : Unit {0}) → Written {E = E} a b ps (Ok u)
+    → vec_len b ≡ vec_len a + length (joined ps)
+written-place a b ps u w = omega (arith, a.ok.0, b.ok.0, ap length w.bytes, length-append a.items (joined ps))
+
+-- parts written leave the place after them
+pub fitted-place : {E : Type 0} (N : ℕ) (a b : ArrayVec ℕ) (ps : List (List ℕ)) (u : Unit {0}) → Fitted {E = E} N a b ps (Ok u)
     → array_vec_len b ≡ array_vec_len a + length (joined ps)
-written-place N a b ps u w = ap length w.bytes ∙ length-append a.items (joined ps)
+fitted-place N a b ps u w = ap length w.bytes ∙ length-append a.items (joined ps)
 
 -- where the text of the parts has room, it stands behind what the vector held, and the vector's end is the text's
-pub written_whole : {E : Type 0} (N : ℕ) (old new : ArrayVec ℕ) (ps : List (List ℕ)) (r : Result (Unit {0}) E) → Written N old new ps r
+pub written_whole : {A E : Type 0} (old new : Vec ℕ A) (ps : List (List ℕ)) (r : Result (Unit {0}) E) → Written old new ps r
+    → vec_len old + length (joined ps) ≤ vec_capacity old
+    → (new.items ≡ old.items ++ joined ps) × (vec_len new ≡ vec_len old + length (joined ps))
+written_whole {A} {E} old new ps r w h = go r (w.succeeds h) w.bytes
+  where
+    go : (r : Result (Unit {0}) E) → IsOk r → MatchResult r (λ _. new.items ≡ old.items ++ joined ps) (λ _. Stopped old new ps)
+        → (new.items ≡ old.items ++ joined ps) × (vec_len new ≡ vec_len old + length (joined ps))
+    go (Ok u) s e = (e, omega (arith, old.ok.0, new.ok.0, ap length e, length-append old.items (joined ps)))
+    go (Err x) s e = absurd (let z : false ≡ true = s in cc)
+
+-- where the text of the parts has room, it stands behind what the vector held, and the vector's end is the text's
+pub fitted_whole : {E : Type 0} (N : ℕ) (old new : ArrayVec ℕ) (ps : List (List ℕ)) (r : Result (Unit {0}) E) → Fitted N old new ps r
     → array_vec_len old + length (joined ps) ≤ N
     → (new.items ≡ old.items ++ joined ps) × (array_vec_len new ≡ array_vec_len old + length (joined ps))
-written_whole {E} N old new ps r w h = go r (w.succeeds.1 h) w.bytes
+fitted_whole {E} N old new ps r w h = go r (w.succeeds.1 h) w.bytes
   where
-    go : (r : Result (Unit {0}) E) → IsOk r → MatchResult r (λ _. new.items ≡ old.items ++ joined ps) (λ _. Stopped N old new ps)
+    go : (r : Result (Unit {0}) E) → IsOk r → MatchResult r (λ _. new.items ≡ old.items ++ joined ps) (λ _. Filled N old new ps)
         → (new.items ≡ old.items ++ joined ps) × (array_vec_len new ≡ array_vec_len old + length (joined ps))
     go (Ok u) s e = (e, ap length e ∙ length-append old.items (joined ps))
     go (Err x) s e = absurd (let z : false ≡ true = s in cc)
@@ -200,9 +217,13 @@ put-front room s (p ∷ ps) = go (leb (length s + length p) room) (put-front roo
         let P : List ℕ → Type 0 = λ x. StartsWith x (all_put room (s ++ p) ps) in
         (starts_append s p (all_put room (s ++ p) ps) i.0, subst P (append_assoc s p (joined ps)) i.1)
 
-pub written-front : {E : Type 0} (N : ℕ) (a b : ArrayVec ℕ) (ps : List (List ℕ)) (e : E) → Written N a b ps (Err e)
+pub written-front : {A E : Type 0} (a b : Vec ℕ A) (ps : List (List ℕ)) (e : E) → Written a b ps (Err e)
     → StartsWith b.items a.items × StartsWith (a.items ++ joined ps) b.items
-written-front N a b ps e w = rw w.bytes.items (put-front N a.items ps)
+written-front a b ps e w = rw w.bytes.items (put-front w.bytes.room a.items ps)
+
+pub fitted-front : {E : Type 0} (N : ℕ) (a b : ArrayVec ℕ) (ps : List (List ℕ)) (e : E) → Fitted N a b ps (Err e)
+    → StartsWith b.items a.items × StartsWith (a.items ++ joined ps) b.items
+fitted-front N a b ps e w = rw w.bytes.items (put-front N a.items ps)
 
 -- ---- words counted
 

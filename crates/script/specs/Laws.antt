@@ -1,7 +1,8 @@
 -- Laws of the definitions in this folder, for proofs and for callers. Assumes nothing.
-use Rattle.std.specs.Prelude.{ℕ, zero, suc, ◌+◌, ◌≤◌, ◌<◌, ◌≡◌, refl, Option, Some, None, MatchOption, Result, Ok, Err, MatchResult, IfOk, IfSome, Bool, true, false, cond, ◌&&◌, List, [], ◌∷◌, ◌++◌, length, get_or, replicate, leb, eqb, ltb}
+use Rattle.std.specs.Prelude.{ℕ, zero, suc, ◌+◌, ◌≤◌, ◌<◌, ◌≡◌, refl, Option, Some, None, MatchOption, Result, Ok, Err, MatchResult, IfOk, IfSome, Bool, true, false, cond, ◌&&◌, List, [], ◌∷◌, ◌++◌, length, get_or, replicate, leb, eqb, ltb, vec_len}
+use Rattle.std.specs.declared.vec.Vec.{Vec}
 use Rattle.arrayvec.specs.ArrayVec.{ArrayVec, array_vec_len}
-use Rattle.std.proofs.Common.{arith, sym, ◌∙◌, ap, append-nil, append_assoc, length-append, le-leb, leb-true}
+use Rattle.std.proofs.Common.{arith, sym, ◌∙◌, ap, le_trans, append-nil, append_assoc, length-append, le-leb, leb-true}
 use borrow.Author.Tests.{lt-leb}
 use Rattle.script.specs.declared.Name.{Name}
 use Rattle.script.specs.declared.Command.{Command}
@@ -9,7 +10,7 @@ use Rattle.script.specs.declared.BadLine.{BadLine}
 use Rattle.script.specs.Words.{words_of, is_empty, first_of, rest_of, number_of, up_to, value_of, word_value, fitting, each_of, values_of, are_bytes}
 use Rattle.script.specs.Command.{name_of, value_at, tick_limits, tick_of, tick_call, telegram_call, write_call, read_call, image_call, part_call}
 use Rattle.script.specs.Command.{load_call, call_of, named_call, or_error, command_of, Within}
-use Rattle.script.specs.Answer.{joined, all_put, place_after_all, Stopped, Written}
+use Rattle.script.specs.Answer.{joined, all_put, place_after_all, Stopped, Written, Filled, Fitted}
 
 -- the value of a number up to a limit
 pub value-within : (limit : ℕ) (n : Option ℕ) → up_to limit n ≡ true → value_of n ≤ limit
@@ -172,10 +173,67 @@ put-more room s (p ∷ ps) qs h =
     go true i = i
     go false i = refl
 
+-- parts written after others that were written: all, or as many as there was memory for
+pub written-append : {A F E : Type 0} {a b c : Vec ℕ A} {ps qs : List (List ℕ)} {u : Unit {0}} {r : Result (Unit {0}) E}
+    → Written {E = F} a b ps (Ok u) → Written b c qs r → Written a c (ps ++ qs) r
+written-append {A} {F} {E} {a} {b} {c} {ps} {qs} {u} {r} v w = record {
+  bytes = go r w.bytes;
+  capacity = le_trans v.capacity w.capacity;
+  succeeds = λ h. w.succeeds (omega (arith, h, text, held, v.capacity));
+}
+  where
+    text : length (joined (ps ++ qs)) ≡ length (joined ps) + length (joined qs)
+    text = ap length (joined-append ps qs) ∙ length-append (joined ps) (joined qs)
+
+    held : vec_len b ≡ vec_len a + length (joined ps)
+    held = omega (arith, a.ok.0, b.ok.0, ap length v.bytes, length-append a.items (joined ps))
+
+    go : (r : Result (Unit {0}) E) → MatchResult r (λ _. c.items ≡ b.items ++ joined qs) (λ _. Stopped b c qs)
+        → MatchResult r (λ _. c.items ≡ a.items ++ joined (ps ++ qs)) (λ _. Stopped a c (ps ++ qs))
+    go (Ok x) e = e ∙ rw (v.bytes, joined-append ps qs) (append_assoc a.items (joined ps) (joined qs))
+    go (Err x) e =
+        let whole = put_whole e.room a.items ps (omega (arith, held, a.ok.0, b.ok.1, e.at_least)) in
+        let more : all_put e.room a.items (ps ++ qs) ≡ all_put e.room (all_put e.room a.items ps) qs = rw whole.1 at (put-append e.room a.items ps qs) in
+        record {
+          room = e.room;
+          at_least = le_trans v.capacity e.at_least;
+          at_most = e.at_most;
+          short = omega (arith, e.short, text, held);
+          items = e.items ∙ sym (more ∙ rw (whole.0, v.bytes));
+        }
+
+-- and after others that there was no memory for: those stand that stood
+pub written-stopped : {A E F : Type 0} {a b : Vec ℕ A} {ps : List (List ℕ)} {e : E} (qs : List (List ℕ)) (f : F)
+    → Written a b ps (Err e) → Written {E = F} a b (ps ++ qs) (Err f)
+written-stopped {A} {E} {F} {a} {b} {ps} {e} qs f w = record {
+  bytes = record {
+    room = s.room;
+    at_least = s.at_least;
+    at_most = s.at_most;
+    short = omega (arith, s.short, text);
+    items = s.items ∙ sym same;
+  };
+  capacity = w.capacity;
+  succeeds = λ h. w.succeeds (omega (arith, h, text));
+}
+  where
+    s : Stopped a b ps
+    s = w.bytes
+
+    text : length (joined (ps ++ qs)) ≡ length (joined ps) + length (joined qs)
+    text = ap length (joined-append ps qs) ∙ length-append (joined ps) (joined qs)
+
+    same : all_put s.room a.items (ps ++ qs) ≡ all_put s.room a.items ps
+    same =
+        let none = put_short s.room a.items ps (omega (arith, a.ok.0, a.ok.1, s.at_least)) (omega (arith, a.ok.0, s.short)) in
+        rw none at (put-append s.room a.items ps qs)
+
+-- the same of a vector of a fixed capacity
+
 -- parts written after others that were written: all, or as many as there was room for
-pub written-append : {F E : Type 0} {N : ℕ} {a b c : ArrayVec ℕ} {ps qs : List (List ℕ)} {u : Unit {0}} {r : Result (Unit {0}) E}
-    → Written {E = F} N a b ps (Ok u) → Written N b c qs r → Written N a c (ps ++ qs) r
-written-append {F} {E} {N} {a} {b} {c} {ps} {qs} {u} {r} v w = record {
+pub fitted-append : {F E : Type 0} {N : ℕ} {a b c : ArrayVec ℕ} {ps qs : List (List ℕ)} {u : Unit {0}} {r : Result (Unit {0}) E}
+    → Fitted {E = F} N a b ps (Ok u) → Fitted N b c qs r → Fitted N a c (ps ++ qs) r
+fitted-append {F} {E} {N} {a} {b} {c} {ps} {qs} {u} {r} v w = record {
   bytes = go r w.bytes;
   succeeds = (λ k. omega (arith, w.succeeds.0 k, text, held), λ h. w.succeeds.1 (omega (arith, h, text, held)));
 }
@@ -186,8 +244,8 @@ written-append {F} {E} {N} {a} {b} {c} {ps} {qs} {u} {r} v w = record {
     held : array_vec_len b ≡ array_vec_len a + length (joined ps)
     held = ap length v.bytes ∙ length-append a.items (joined ps)
 
-    go : (r : Result (Unit {0}) E) → MatchResult r (λ _. c.items ≡ b.items ++ joined qs) (λ _. Stopped N b c qs)
-        → MatchResult r (λ _. c.items ≡ a.items ++ joined (ps ++ qs)) (λ _. Stopped N a c (ps ++ qs))
+    go : (r : Result (Unit {0}) E) → MatchResult r (λ _. c.items ≡ b.items ++ joined qs) (λ _. Filled N b c qs)
+        → MatchResult r (λ _. c.items ≡ a.items ++ joined (ps ++ qs)) (λ _. Filled N a c (ps ++ qs))
     go (Ok x) e = e ∙ rw (v.bytes, joined-append ps qs) (append_assoc a.items (joined ps) (joined qs))
     go (Err x) e =
         let whole = put_whole N a.items ps (v.succeeds.0 refl) in
@@ -198,14 +256,14 @@ written-append {F} {E} {N} {a} {b} {c} {ps} {qs} {u} {r} v w = record {
         }
 
 -- and after others that there was no room for: those stand that stood
-pub written-stopped : {E F : Type 0} {N : ℕ} {a b : ArrayVec ℕ} {ps : List (List ℕ)} {e : E} (qs : List (List ℕ)) (f : F)
-    → Written N a b ps (Err e) → Written {E = F} N a b (ps ++ qs) (Err f)
-written-stopped {E} {F} {N} {a} {b} {ps} {e} qs f w = record {
+pub fitted-filled : {E F : Type 0} {N : ℕ} {a b : ArrayVec ℕ} {ps : List (List ℕ)} {e : E} (qs : List (List ℕ)) (f : F)
+    → Fitted N a b ps (Err e) → Fitted {E = F} N a b (ps ++ qs) (Err f)
+fitted-filled {E} {F} {N} {a} {b} {ps} {e} qs f w = record {
   bytes = record { short = omega (arith, s.short, text); items = s.items ∙ sym (put-more N a.items ps qs s.short) };
   succeeds = (λ k. absurd (let z : false ≡ true = k in cc), λ h. absurd (omega (arith, h, s.short, text)));
 }
   where
-    s : Stopped N a b ps
+    s : Filled N a b ps
     s = w.bytes
 
     text : length (joined (ps ++ qs)) ≡ length (joined ps) + length (joined qs)

@@ -8,7 +8,7 @@ ghost use Rattle.std.specs.Prelude.{◌≡◌, length, drop};
 ghost use Rattle.script.specs.Words.{words_of, bytes_of};
 ghost use Rattle.script.specs.Command.{name_of, alone_call, tick_call, telegram_call, write_call, read_call, image_call, part_call, load_call, call_of, named_call, command_of};
 
-pub use answers::put_answer;
+pub use answers::{fit_answer, put_answer};
 use words::{Words, same};
 
 // What a line asks for.

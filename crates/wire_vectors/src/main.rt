@@ -35,14 +35,14 @@ impl From<CapacityError> for Failed {
 // A space and a decimal number.
 fn put_number(line: &mut Line, n: u64) -> Result<(), CapacityError> {
     line.try_extend_from_slice(b" ")?;
-    text::put_decimal(line, n)
+    text::fit_decimal(line, n)
 }
 
 // Each byte after a space.
 fn put_row(line: &mut Line, bytes: &[u8]) -> Result<(), CapacityError> {
     for byte in bytes {
         line.try_extend_from_slice(b" ")?;
-        text::put_byte(line, *byte)?;
+        text::fit_byte(line, *byte)?;
     }
     Ok(())
 }
@@ -62,14 +62,14 @@ trait Shown: Copy {
 
 impl Shown for Pair {
     fn put(self, line: &mut Line) -> Result<(), CapacityError> {
-        text::put_word(line, self.bits)?;
+        text::fit_word(line, self.bits)?;
         put_row(line, &[self.status])
     }
 }
 
 impl Shown for Discrete {
     fn put(self, line: &mut Line) -> Result<(), CapacityError> {
-        text::put_decimal(line, self.value.into())?;
+        text::fit_decimal(line, self.value.into())?;
         put_row(line, &[self.status])
     }
 }
@@ -142,13 +142,13 @@ fn all_parts(rt: &impl Print, line: &mut Line) -> Result<(), Failed> {
     for status in 0..=255u8 {
         let s = Status::from(status);
         if status % 16 == 0 {
-            text::put_byte(line, status)?;
+            text::fit_byte(line, status)?;
         }
         put_number(line, u8::from(s.quality).into())?;
         line.try_extend_from_slice(b".")?;
-        text::put_decimal(line, s.sub_status.into())?;
+        text::fit_decimal(line, s.sub_status.into())?;
         line.try_extend_from_slice(b".")?;
-        text::put_decimal(line, u8::from(s.limits).into())?;
+        text::fit_decimal(line, u8::from(s.limits).into())?;
         if status % 16 == 15 {
             show(rt, line)?;
         }

@@ -1,9 +1,6 @@
-use Rattle.std.proofs.Common.{rules, List, ℕ, subst}
-use Rattle.text.specs.Appended.{Appends}
-use Rattle.text.proofs.Decimals.{signed_is}
+use Rattle.std.proofs.Common.{rules}
+use Rattle.text.specs.Laws.{signed-length}
 use Rattle.text.proofs.put_signed.Goals as goal
 
 pub returns : goal.returns
-returns g c =
-    let P : List ℕ → Type 0 = λ bs. Appends g.row.N c.args.out.now c.try_extend_from_slice.new.self bs c.try_extend_from_slice.result in
-    subst P (signed_is c.args.z c.ranges.z) (search rules)
+returns c = search (rules, signed-length c.args.z)

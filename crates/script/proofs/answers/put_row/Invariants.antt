@@ -4,4 +4,4 @@ use Rattle.script.specs.Answer.{Written, row_parts}
 use Rattle.script.proofs.answers.put_row.Given as goal
 
 abbrev pub invariant-loop-byte : goal.invariant-loop-byte
-invariant-loop-byte g l = Written {E = Unit {0}} g.row.N l.initial.out l.out (row_parts (take l.byte-index l.row)) (Ok tt)
+invariant-loop-byte l = Written {E = Unit {0}} l.initial.out l.out (row_parts (take l.byte-index l.row)) (Ok tt)

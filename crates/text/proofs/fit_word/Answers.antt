@@ -1,12 +1,12 @@
 -- The word's bytes are its eight digits, two and two.
 use Rattle.std.proofs.Common.{rules, ◌≡◌, ◌/◌, ◌%◌, ℕ, List, subst, arith}
-use Rattle.text.specs.Appended.{Appends}
+use Rattle.text.specs.Appended.{Fits}
 use Rattle.text.specs.Digits.{hex_word}
-use Rattle.text.proofs.put_word.Goals as goal
+use Rattle.text.proofs.fit_word.Goals as goal
 
 pub returns : goal.returns
 returns g c =
-    let P : List ℕ → Type 0 = λ bs. Appends g.row.N c.args.out.now c.try_extend_from_slice.new.self bs c.try_extend_from_slice.result in
+    let P : List ℕ → Type 0 = λ bs. Fits g.row.N c.args.out.now c.try_extend_from_slice.new.self bs c.try_extend_from_slice.result in
     let w = c.args.word in
     let a : w / 16777216 % 256 / 16 % 16 ≡ w / 16 / 16 / 16 / 16 / 16 / 16 / 16 % 16 = omega arith in
     let b : w / 16777216 % 256 % 16 ≡ w / 16 / 16 / 16 / 16 / 16 / 16 % 16 = omega arith in
