@@ -1,5 +1,5 @@
--- The library's decimal text is the call script's. Assumes nothing.
-use Rattle.std.proofs.Common.{ℕ, zero, suc, ◌/◌, ◌%◌, ◌^◌, ◌≤◌, ◌<◌, ◌≡◌, refl, ◌∙◌, Bool, true, false, cond, [], ◌∷◌, ◌++◌, ℤ, pos, negsuc, w64, FitsSigned, ltb-true, ltb-false, lt-ltb, arith, div-lt_iff_lt-mul, pow-suc}
+-- The library's decimal text is the call script's, and how long it is. Assumes nothing.
+use Rattle.std.proofs.Common.{ℕ, zero, suc, ◌/◌, ◌%◌, ◌^◌, ◌≤◌, ◌<◌, ◌≡◌, refl, ◌∙◌, Bool, true, false, cond, [], ◌∷◌, ◌++◌, length, length-append, ℤ, pos, negsuc, w64, FitsSigned, ltb-true, ltb-false, lt-ltb, arith, div-lt_iff_lt-mul, pow-suc}
 use Rattle.std.proofs.Math.Dec.{ltb}
 use Rattle.std.proofs.lemmas.Fmt.{decimal_digit, decimal_step}
 use Rattle.std.specs.Fmt.{decimal as std_decimal, signed_decimal}
@@ -32,3 +32,23 @@ pub signed_is : (z : ℤ) → FitsSigned w64 z → signed_decimal z ≡ signed z
 unfolding signed
 signed_is (pos n) h = decimal_is n (let b : n < 2 ^ 63 = h.sfits in omega arith)
 signed_is (negsuc n) h = let b : n < 2 ^ 63 = h.sfits in rw (decimal_is (suc n) (omega arith))
+
+-- ---- how long it is
+
+length_in : (k n : ℕ) → length (decimal_in k n) ≤ k
+unfolding decimal_in
+length_in zero n = omega arith
+length_in (suc k) n = go (ltb n 10) (length_in k (n / 10))
+  where
+    go : (t : Bool) → length (decimal_in k (n / 10)) ≤ k → length (cond t (digit n ∷ []) (decimal_in k (n / 10) ++ (digit (n % 10) ∷ []))) ≤ suc k
+    go true h = omega arith
+    go false h = omega (arith, h, length-append (decimal_in k (n / 10)) (digit (n % 10) ∷ []))
+
+pub decimal_length : (n : ℕ) → length (decimal n) ≤ 20
+unfolding decimal
+decimal_length n = length_in 20 n
+
+pub signed_length : (z : ℤ) → length (signed z) ≤ 21
+unfolding signed
+signed_length (pos n) = omega (arith, decimal_length n)
+signed_length (negsuc n) = omega (arith, decimal_length (suc n))

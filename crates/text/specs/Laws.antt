@@ -98,26 +98,6 @@ decimal-value (suc k) n l =
     (λ h. rw (value-of-digit n (omega arith)) (omega arith))
     (λ h. value-snoc 10 0 (digit (n % 10)) (decimal_in k (n / 10)) ∙ rw (rest, last-digit 10 n (omega arith) (omega arith)) (omega arith))
 
--- ---- lengths
-
-decimal_in-length : (k n : ℕ) → length (decimal_in k n) ≤ k
-unfolding decimal_in
-decimal_in-length zero n = omega arith
-decimal_in-length (suc k) n =
-    let rest = decimal_in-length k (n / 10) in
-    decimal-cases (λ w. length w ≤ suc k) k n (λ h. omega arith) (λ h. omega (arith, rest, length-append (decimal_in k (n / 10)) (digit (n % 10) ∷ [])))
-
--- a number in decimal has at most 20 digits
-pub decimal-length : (n : ℕ) → length (decimal n) ≤ 20
-unfolding decimal
-decimal-length n = decimal_in-length 20 n
-
--- and with a sign at most 21 bytes
-pub signed-length : (z : ℤ) → length (signed z) ≤ 21
-unfolding signed
-signed-length (pos n) = omega (arith, decimal-length n)
-signed-length (negsuc n) = omega (arith, decimal-length (suc n))
-
 -- one or more digits of a base are a number
 number-of-digits : (base limit n : ℕ) (w : List ℕ) → 0 < length w → all_digits base w ≡ true → value_after base 0 w ≡ n → n ≤ limit
     → digits_number base w limit ≡ Some n

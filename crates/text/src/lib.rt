@@ -78,6 +78,7 @@ pub fn put_word(out: &mut Vec<u8>, word: u32) -> Result<(), AllocError>
 }
 
 // Appends a whole number in decimal, without leading zeros.
+#[tactic(auto, using(crate::proofs::Decimals::decimal_length))]
 pub fn put_decimal(out: &mut Vec<u8>, n: u64) -> Result<(), AllocError>
     ensures { Appends out.old out.new (decimal n) result }
 {
@@ -87,6 +88,7 @@ pub fn put_decimal(out: &mut Vec<u8>, n: u64) -> Result<(), AllocError>
 }
 
 // Appends a whole number in decimal, without leading zeros, a negative one after the sign `-`.
+#[tactic(auto, using(crate::proofs::Decimals::signed_length))]
 pub fn put_signed(out: &mut Vec<u8>, z: i64) -> Result<(), AllocError>
     ensures { Appends out.old out.new (signed z) result }
 {
